@@ -2,7 +2,7 @@
 
 ghost use mathlib.Core.Path.{_≡_};
 ghost use Prim.Native.Nat.{_≤_};
-ghost use Rattle.bales.specs.Ranges.{Ranged};
+use super::ranged::Ranged;
 
 /// A place as tickets write it, 1 to 99.
 #[derive(Clone, Copy, PartialEq, Eq, Debug)]
@@ -20,18 +20,43 @@ pub struct Weight {
     ghost most: { pounds ≤ 1000 },
 }
 
-impl Place {
-    /// The place, or nothing where the number is no place.
-    pub fn new(number: u8) -> Option<Place>
-        ensures { λ r. ⌜ Ranged 1 99 number (λ p. p .number) r ⌝ }
-    {
+pub impl Ranged for Place as PlaceRanged {
+    ghost low = { 1 };
+
+    ghost high = { 99 };
+
+    ghost figure = { λ p. p .number };
+
+    fn from_number(number: u32) -> Option<Place> {
         if 1 <= number && number <= 99 {
-            Some(Place { number })
+            Some(Place {
+                number: number as u8,
+            })
         } else {
             None
         }
     }
+}
 
+pub impl Ranged for Weight as WeightRanged {
+    ghost low = { 1 };
+
+    ghost high = { 1000 };
+
+    ghost figure = { λ w. w .pounds };
+
+    fn from_number(number: u32) -> Option<Weight> {
+        if 1 <= number && number <= 1000 {
+            Some(Weight {
+                pounds: number as u16,
+            })
+        } else {
+            None
+        }
+    }
+}
+
+impl Place {
     pub fn number(self) -> u8
         ensures { λ r. ⌜ r ≡ self .number ⌝ }
     {
@@ -40,17 +65,6 @@ impl Place {
 }
 
 impl Weight {
-    /// The weight, or nothing where no bale weighs so much or so little.
-    pub fn new(pounds: u16) -> Option<Weight>
-        ensures { λ r. ⌜ Ranged 1 1000 pounds (λ w. w .pounds) r ⌝ }
-    {
-        if 1 <= pounds && pounds <= 1000 {
-            Some(Weight { pounds })
-        } else {
-            None
-        }
-    }
-
     pub fn pounds(self) -> u16
         ensures { λ r. ⌜ r ≡ self .pounds ⌝ }
     {

@@ -67,16 +67,25 @@ mod tests {
     use fault::FaultDebug;
     use fault::FaultPartialEq;
     use super::*;
+    use super::super::super::bale::PlaceRanged;
+    use super::super::super::bale::WeightRanged;
+    use super::super::super::ranged::Ranged;
     use std::test::*;
 
     #[test]
     fn takes_places_in_turn(rt: LibcRuntime) -> Result<(), Fail> {
         let mut list = OpenList::open(rt.alloc())?;
         check_eq(list.can_close(1), Err(Fault::new(Refusal::NoBales, 1, 0)))?;
-        let weight = Weight::new(480).ok_or("no weight")?;
-        let second = Place::new(2).ok_or("no place")?;
+        let Some(first) = Place::from_number(1) else {
+            return Err(Fail::new("no place"));
+        };
+        let Some(second) = Place::from_number(2) else {
+            return Err(Fail::new("no place"));
+        };
+        let Some(weight) = Weight::from_number(480) else {
+            return Err(Fail::new("no weight"));
+        };
         check_eq(list.enter(2, second, weight), Err(Fault::new(Refusal::NotNext, 2, 2)))?;
-        let first = Place::new(1).ok_or("no place")?;
         check_eq(list.enter(3, first, weight), Ok(()))?;
         check_eq(list.enter(4, second, weight), Ok(()))?;
         check_eq(list.can_close(5), Ok(()))?;

@@ -1,0 +1,52 @@
+-- Where a text is cut.
+use Prim.Native.Nat.{ℕ, suc, _+_, _<_, _≤_}
+use mathlib.Core.Path.{_≡_, refl, sym, ap, _∙_}
+use mathlib.Core.List.{List, [], _∷_, _++_}
+use native.Mathlib.Omega.{arith}
+use lib.ListN.{length, getD, take, drop}
+use borrow.Author.Tests.{eq-eqb, ne-eqb, eqb-true}
+use lib.Dec.{eqb}
+use Rattle.std.specs.Joined.{joined}
+use Rattle.std.proofs.shelf.Tests.{cond-both}
+use Rattle.std.proofs.shelf.Lists.{drop-more, take-append-drop, length-take-le, getD-take}
+use Rattle.ticket.specs.Parts.{partsOf, onHead, rejoined}
+
+abbrev pub Free : ℕ → List ℕ → Type 0
+Free sep xs = (k : ℕ) → k < length xs → getD xs k 0 ≡ sep → ⊥
+
+pub parts-whole : (sep : ℕ) (xs : List ℕ) → Free sep xs → partsOf sep xs ≡ xs ∷ []
+parts-whole sep [] f = refl
+parts-whole sep (x ∷ xs) f = rw (ne-eqb x sep (f 0 (omega arith)), parts-whole sep xs (λ k h. f (suc k) (omega arith)))
+
+pub parts-cut : (sep : ℕ) (xs ys : List ℕ) → Free sep xs → partsOf sep (xs ++ (sep ∷ ys)) ≡ xs ∷ partsOf sep ys
+parts-cut sep [] ys f = rw (eq-eqb sep sep refl)
+parts-cut sep (x ∷ xs) ys f = rw (ne-eqb x sep (f 0 (omega arith)), parts-cut sep xs ys (λ k h. f (suc k) (omega arith)))
+
+pub cut-at : (sep : ℕ) (s : List ℕ) (i : ℕ) → i < length s → ((k : ℕ) → k < i → getD s k 0 ≡ sep → ⊥) → getD s i 0 ≡ sep → partsOf sep s ≡ take i s ∷ partsOf sep (drop (i + 1) s)
+cut-at sep s i lt f e =
+    let whole : s ≡ take i s ++ (sep ∷ drop (i + 1) s) = sym (take-append-drop i s) ∙ ap (λ t. take i s ++ t) (drop-more s i 0 lt ∙ ap (λ x. x ∷ drop (i + 1) s) e) in
+    let l = length-take-le i s (omega arith) in
+    ap (partsOf sep) whole ∙ parts-cut sep (take i s) (drop (i + 1) s) (λ k h q. f k (omega arith) (sym (getD-take i s k 0 (omega arith)) ∙ q))
+
+head-some : (c : ℕ) (ps : List (List ℕ)) → 0 < length (onHead c ps)
+head-some c [] = omega arith
+head-some c (p ∷ ps) = omega arith
+
+pub parts-some : (sep : ℕ) (s : List ℕ) → 0 < length (partsOf sep s)
+parts-some sep [] = omega arith
+parts-some sep (c ∷ cs) = cond-both (eqb c sep) _ _ (λ ps. 0 < length ps) (λ _. omega arith) (λ _. head-some c (partsOf sep cs))
+
+rejoined-more : (sep : ℕ) (ps : List (List ℕ)) → 0 < length ps → joined (λ q. sep ∷ q) ps ≡ sep ∷ rejoined sep ps
+rejoined-more sep [] some = absurd (omega arith)
+rejoined-more sep (p ∷ ps) some = refl
+
+rejoined-head : (sep c : ℕ) (ps : List (List ℕ)) → rejoined sep (onHead c ps) ≡ c ∷ rejoined sep ps
+rejoined-head sep c [] = refl
+rejoined-head sep c (p ∷ ps) = refl
+
+pub rejoined-parts : (sep : ℕ) (s : List ℕ) → rejoined sep (partsOf sep s) ≡ s
+rejoined-parts sep [] = refl
+rejoined-parts sep (c ∷ cs) =
+    cond-both (eqb c sep) ([] ∷ partsOf sep cs) (onHead c (partsOf sep cs)) (λ ps. rejoined sep ps ≡ c ∷ cs)
+    (λ t. rejoined-more sep (partsOf sep cs) (parts-some sep cs) ∙ ap (λ l. sep ∷ l) (rejoined-parts sep cs) ∙ ap (λ x. x ∷ cs) (sym (eqb-true c sep t)))
+    (λ _. rejoined-head sep c (partsOf sep cs) ∙ ap (λ l. c ∷ l) (rejoined-parts sep cs))

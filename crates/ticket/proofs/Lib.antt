@@ -1,0 +1,5 @@
+mod Cuts
+mod Digits
+mod Members
+mod Rising
+mod Lists

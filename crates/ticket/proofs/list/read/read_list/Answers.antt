@@ -1,0 +1,6 @@
+use borrow.Author.Needs.{needs}
+use Rattle.ticket.proofs.Members.{members-none}
+use Rattle.ticket.proofs.list.read.read_list.Needs as need
+
+pub returns-in-45 : need.returns-in-45
+returns-in-45 c = let e = members-none in search needs

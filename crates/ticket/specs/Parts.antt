@@ -1,0 +1,29 @@
+-- A text cut at each separator.
+use Prim.Native.Nat.{ℕ}
+use mathlib.Core.Bool.{cond}
+use mathlib.Core.List.{List, [], _∷_, _++_}
+use mathlib.Core.Path.{_≡_}
+use Rattle.std.specs.Joined.{joined}
+use lib.Dec.{eqb}
+
+abbrev pub onHead : ℕ → List (List ℕ) → List (List ℕ)
+onHead c [] = (c ∷ []) ∷ []
+onHead c (p ∷ ps) = (c ∷ p) ∷ ps
+
+-- the parts of a text between its separators, at least one
+abbrev pub partsOf : ℕ → List ℕ → List (List ℕ)
+partsOf sep [] = [] ∷ []
+partsOf sep (c ∷ cs) = cond (eqb c sep) ([] ∷ partsOf sep cs) (onHead c (partsOf sep cs))
+
+-- the parts put together again, with the separator between them
+abbrev pub rejoined : ℕ → List (List ℕ) → List ℕ
+rejoined sep [] = []
+rejoined sep (p ∷ ps) = p ++ joined (λ q. sep ∷ q) ps
+
+abbrev pub Lacks : ℕ → List ℕ → Type 0
+Lacks sep [] = Unit {0}
+Lacks sep (c ∷ cs) = (c ≡ sep → ⊥) × Lacks sep cs
+
+abbrev pub All : {X : Type 0} → (X → Type 0) → List X → Type 0
+All P [] = Unit {0}
+All P (x ∷ xs) = P x × All P xs
