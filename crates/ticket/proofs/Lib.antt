@@ -3,3 +3,4 @@ mod Digits
 mod Members
 mod Rising
 mod Lists
+mod Shown

@@ -1,6 +1,7 @@
 //! A list of places, as a set of bits.
 
 pub mod read;
+pub mod show;
 
 ghost use Prim.Native.Nat.{_<_, _^_};
 
