@@ -4,3 +4,4 @@ mod Members
 mod Rising
 mod Lists
 mod Shown
+mod Names

@@ -2,3 +2,4 @@ pub mod Answers
 pub mod Numbers
 pub mod Parts
 pub mod Lists
+pub mod Words
