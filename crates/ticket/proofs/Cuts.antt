@@ -8,7 +8,7 @@ use borrow.Author.Tests.{eq-eqb, ne-eqb, eqb-true}
 use lib.Dec.{eqb}
 use Rattle.std.specs.Joined.{joined}
 use Rattle.std.proofs.shelf.Tests.{cond-both}
-use Rattle.std.proofs.shelf.Lists.{drop-more, take-append-drop, length-take-le, getD-take}
+use Rattle.std.proofs.shelf.Lists.{at-drop-more, drop-more, take-append-drop, length-take-le, getD-take}
 use Rattle.ticket.specs.Parts.{partsOf, onHead, rejoined}
 
 abbrev pub Free : ℕ → List ℕ → Type 0
@@ -50,3 +50,14 @@ rejoined-parts sep (c ∷ cs) =
     cond-both (eqb c sep) ([] ∷ partsOf sep cs) (onHead c (partsOf sep cs)) (λ ps. rejoined sep ps ≡ c ∷ cs)
     (λ t. rejoined-more sep (partsOf sep cs) (parts-some sep cs) ∙ ap (λ l. sep ∷ l) (rejoined-parts sep cs) ∙ ap (λ x. x ∷ cs) (sym (eqb-true c sep t)))
     (λ _. rejoined-head sep c (partsOf sep cs) ∙ ap (λ l. c ∷ l) (rejoined-parts sep cs))
+
+head-length : (c : ℕ) (ps : List (List ℕ)) → 0 < length ps → length (onHead c ps) ≡ length ps
+head-length c [] some = absurd (omega arith)
+head-length c (p ∷ ps) some = refl
+
+module _ (sep : ℕ) (s : List ℕ) (i : ℕ) (lt : i < length s) where
+  pub count-more : getD s i 0 ≡ sep → length (partsOf sep (drop i s)) ≡ 1 + length (partsOf sep (drop (i + 1) s))
+  count-more e = at-drop-more (λ t. length (partsOf sep t)) s i 0 lt ∙ rw (eq-eqb (getD s i 0) sep e) (omega arith)
+
+  pub count-same : (getD s i 0 ≡ sep → ⊥) → length (partsOf sep (drop i s)) ≡ length (partsOf sep (drop (i + 1) s))
+  count-same ne = at-drop-more (λ t. length (partsOf sep t)) s i 0 lt ∙ rw (ne-eqb (getD s i 0) sep ne) (head-length (getD s i 0) (partsOf sep (drop (i + 1) s)) (parts-some sep (drop (i + 1) s)))

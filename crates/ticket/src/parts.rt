@@ -18,3 +18,16 @@ pub fn cut(text: &[u8], separator: u8) -> (&[u8], Option<&[u8]>)
     }
     (text, None)
 }
+
+/// How many parts a text has.
+pub fn count_parts(text: &[u8], separator: u8) -> usize
+    ensures { λ r. ⌜ r ≡ length (partsOf separator (now (text .entry))) ⌝ }
+{
+    let mut count = 1;
+    for byte in text {
+        if *byte == separator {
+            count += 1;
+        }
+    }
+    count
+}
