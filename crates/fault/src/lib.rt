@@ -5,6 +5,14 @@ ghost use Rattle.std.specs.declared.option.Option.the-variants.{Some};
 ghost use Rattle.fault.specs.Text.{layerText, faultText};
 ghost use Rattle.fault.specs.Refusals.{numberOf, layerOf, namesField, faultOf};
 
+
+pub mod failure;
+
+pub use failure::Failure;
+pub use failure::FailureFromAlloc;
+pub use failure::FailureFromFault;
+pub use failure::FailureFromFmt;
+pub use failure::FailureFromRefused;
 use std::fmt;
 
 /// The part of the reading that refuses: the text as bytes, the form of a line, or the sheet.

@@ -9,10 +9,14 @@ use lib.Dec.{eqb}
 use Rattle.std.specs.Joined.{joined}
 use Rattle.std.proofs.shelf.Tests.{cond-both}
 use Rattle.std.proofs.shelf.Lists.{at-drop-more, drop-more, take-append-drop, length-take-le, getD-take}
-use Rattle.ticket.specs.Parts.{partsOf, onHead, rejoined}
+use Rattle.ticket.specs.Parts.{partsOf, onHead, rejoined, Lacks}
 
 abbrev pub Free : ℕ → List ℕ → Type 0
 Free sep xs = (k : ℕ) → k < length xs → getD xs k 0 ≡ sep → ⊥
+
+pub lacks-free : (sep : ℕ) (xs : List ℕ) → Free sep xs → Lacks sep xs
+lacks-free sep [] f = tt
+lacks-free sep (x ∷ xs) f = (f 0 (omega arith), lacks-free sep xs (λ k h. f (suc k) (omega arith)))
 
 pub parts-whole : (sep : ℕ) (xs : List ℕ) → Free sep xs → partsOf sep xs ≡ xs ∷ []
 parts-whole sep [] f = refl
@@ -22,11 +26,15 @@ pub parts-cut : (sep : ℕ) (xs ys : List ℕ) → Free sep xs → partsOf sep (
 parts-cut sep [] ys f = rw (eq-eqb sep sep refl)
 parts-cut sep (x ∷ xs) ys f = rw (ne-eqb x sep (f 0 (omega arith)), parts-cut sep xs ys (λ k h. f (suc k) (omega arith)))
 
-pub cut-at : (sep : ℕ) (s : List ℕ) (i : ℕ) → i < length s → ((k : ℕ) → k < i → getD s k 0 ≡ sep → ⊥) → getD s i 0 ≡ sep → partsOf sep s ≡ take i s ∷ partsOf sep (drop (i + 1) s)
-cut-at sep s i lt f e =
-    let whole : s ≡ take i s ++ (sep ∷ drop (i + 1) s) = sym (take-append-drop i s) ∙ ap (λ t. take i s ++ t) (drop-more s i 0 lt ∙ ap (λ x. x ∷ drop (i + 1) s) e) in
-    let l = length-take-le i s (omega arith) in
-    ap (partsOf sep) whole ∙ parts-cut sep (take i s) (drop (i + 1) s) (λ k h q. f k (omega arith) (sym (getD-take i s k 0 (omega arith)) ∙ q))
+module _ (sep : ℕ) (s : List ℕ) (i : ℕ) (lt : i < length s) (before : (k : ℕ) → k < i → getD s k 0 ≡ sep → ⊥) where
+  pub free-at : Free sep (take i s)
+  free-at k h q = let l = length-take-le i s (omega arith) in before k (omega arith) (sym (getD-take i s k 0 (omega arith)) ∙ q)
+
+  pub whole-at : getD s i 0 ≡ sep → s ≡ take i s ++ (sep ∷ drop (i + 1) s)
+  whole-at e = sym (take-append-drop i s) ∙ ap (λ t. take i s ++ t) (drop-more s i 0 lt ∙ ap (λ x. x ∷ drop (i + 1) s) e)
+
+  pub cut-at : getD s i 0 ≡ sep → partsOf sep s ≡ take i s ∷ partsOf sep (drop (i + 1) s)
+  cut-at e = ap (partsOf sep) (whole-at e) ∙ parts-cut sep (take i s) (drop (i + 1) s) free-at
 
 head-some : (c : ℕ) (ps : List (List ℕ)) → 0 < length (onHead c ps)
 head-some c [] = omega arith

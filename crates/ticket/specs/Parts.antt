@@ -20,6 +20,7 @@ abbrev pub rejoined : ℕ → List (List ℕ) → List ℕ
 rejoined sep [] = []
 rejoined sep (p ∷ ps) = p ++ joined (λ q. sep ∷ q) ps
 
+-- the separator stands nowhere in the text
 abbrev pub Lacks : ℕ → List ℕ → Type 0
 Lacks sep [] = Unit {0}
 Lacks sep (c ∷ cs) = (c ≡ sep → ⊥) × Lacks sep cs

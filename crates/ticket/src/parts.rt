@@ -1,15 +1,17 @@
 //! A text cut at its separators: fields at commas, places at plus signs.
 
 ghost use mathlib.Core.Path.{_≡_};
-ghost use mathlib.Core.List.{[], _∷_};
-ghost use Prim.Native.Nat.{ℕ, _<_};
+ghost use mathlib.Core.List.{[], _∷_, _++_};
+ghost use Prim.Native.Nat.{_<_};
 ghost use lib.ListN.{length};
 ghost use Rattle.std.specs.Options.{Cases as BySome};
-ghost use Rattle.ticket.specs.Parts.{partsOf};
+ghost use Rattle.ticket.specs.Parts.{partsOf, Lacks};
 
 /// The first part of a text, and what follows its separator, if there is one.
 pub fn cut(text: &[u8], separator: u8) -> (&[u8], Option<&[u8]>)
-    ensures { λ r. ⌜ BySome (r .1) (partsOf separator (now (text .entry)) ≡ now (r .0) ∷ []) (λ rest. (partsOf separator (now (text .entry)) ≡ now (r .0) ∷ partsOf separator (now rest)) × (length (now rest) < length (now (text .entry)))) ⌝ }
+    ensures plain { λ r. ⌜ Lacks separator (now (r .0)) ⌝ }
+    ensures whole { λ r. ⌜ BySome (r .1) (now (text .entry) ≡ now (r .0)) (λ rest. now (text .entry) ≡ now (r .0) ++ (separator ∷ now rest)) ⌝ }
+    ensures parts { λ r. ⌜ BySome (r .1) (partsOf separator (now (text .entry)) ≡ now (r .0) ∷ []) (λ rest. (partsOf separator (now (text .entry)) ≡ now (r .0) ∷ partsOf separator (now rest)) × (length (now rest) < length (now (text .entry)))) ⌝ }
 {
     for (i, byte) in text.iter().enumerate() {
         if *byte == separator {

@@ -34,6 +34,6 @@ body-is dialect line s head fs letter short e l n =
 
 pub returns : need.returns
 returns c =
-    let e = head-and-rest (c .args .text .now) (c .cut .result .0 .now) (c .cut .result .1) (c .cut .ensures) in
+    let e = head-and-rest (c .args .text .now) (c .cut .result .0 .now) (c .cut .result .1) (c .cut .ensures .parts) in
     let b = body-is (c .args .dialect) (c .args .line) (c .args .text .now) (c .cut .result .0 .now) _ (c .in-Continue-letter .letter) (omega arith) e (sym (c .in-Continue-letter .ensures tt)) (sym (c .count-parts .ensures) ∙ c .if-count-parts-field-count .left ∙ c .field-count .ensures) in
     subst (Gives said (c .read-body .result)) (sym b) (c .read-body .ensures)
