@@ -1,15 +1,15 @@
 -- Where a text is cut.
-use Prim.Native.Nat.{ℕ, suc, _+_, _<_, _≤_}
+use Prim.Native.Nat.{ℕ, zero, suc, _+_, _<_, _≤_}
 use mathlib.Core.Path.{_≡_, refl, sym, ap, _∙_}
 use mathlib.Core.List.{List, [], _∷_, _++_}
 use native.Mathlib.Omega.{arith}
 use lib.ListN.{length, getD, take, drop}
-use borrow.Author.Tests.{eq-eqb, ne-eqb, eqb-true}
+use borrow.Author.Tests.{eq-eqb, ne-eqb, eqb-true, eqb-false}
 use lib.Dec.{eqb}
 use Rattle.std.specs.Joined.{joined}
 use Rattle.std.proofs.shelf.Tests.{cond-both}
 use Rattle.std.proofs.shelf.Lists.{at-drop-more, drop-more, take-append-drop, length-take-le, getD-take}
-use Rattle.ticket.specs.Parts.{partsOf, onHead, rejoined, Lacks}
+use Rattle.ticket.specs.Parts.{partsOf, onHead, rejoined, Lacks, All}
 
 abbrev pub Free : ℕ → List ℕ → Type 0
 Free sep xs = (k : ℕ) → k < length xs → getD xs k 0 ≡ sep → ⊥
@@ -17,6 +17,11 @@ Free sep xs = (k : ℕ) → k < length xs → getD xs k 0 ≡ sep → ⊥
 pub lacks-free : (sep : ℕ) (xs : List ℕ) → Free sep xs → Lacks sep xs
 lacks-free sep [] f = tt
 lacks-free sep (x ∷ xs) f = (f 0 (omega arith), lacks-free sep xs (λ k h. f (suc k) (omega arith)))
+
+pub free-lacks : (sep : ℕ) (xs : List ℕ) → Lacks sep xs → Free sep xs
+free-lacks sep [] l k h e = absurd (omega arith)
+free-lacks sep (x ∷ xs) l zero h e = l .0 e
+free-lacks sep (x ∷ xs) l (suc k) h e = free-lacks sep xs (l .1) k (omega arith) e
 
 pub parts-whole : (sep : ℕ) (xs : List ℕ) → Free sep xs → partsOf sep xs ≡ xs ∷ []
 parts-whole sep [] f = refl
@@ -69,3 +74,11 @@ module _ (sep : ℕ) (s : List ℕ) (i : ℕ) (lt : i < length s) where
 
   pub count-same : (getD s i 0 ≡ sep → ⊥) → length (partsOf sep (drop i s)) ≡ length (partsOf sep (drop (i + 1) s))
   count-same ne = at-drop-more (λ t. length (partsOf sep t)) s i 0 lt ∙ rw (ne-eqb (getD s i 0) sep ne) (head-length (getD s i 0) (partsOf sep (drop (i + 1) s)) (parts-some sep (drop (i + 1) s)))
+
+head-lacks : (sep c : ℕ) (ps : List (List ℕ)) → (c ≡ sep → ⊥) → All (Lacks sep) ps → All (Lacks sep) (onHead c ps)
+head-lacks sep c [] ne a = ((ne, tt), tt)
+head-lacks sep c (p ∷ ps) ne a = ((ne, a .0), a .1)
+
+pub parts-lack : (sep : ℕ) (s : List ℕ) → All (Lacks sep) (partsOf sep s)
+parts-lack sep [] = (tt, tt)
+parts-lack sep (c ∷ cs) = cond-both (eqb c sep) _ _ (All (Lacks sep)) (λ _. (tt, parts-lack sep cs)) (λ t. head-lacks sep c (partsOf sep cs) (eqb-false c sep t) (parts-lack sep cs))

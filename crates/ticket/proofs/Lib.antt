@@ -5,3 +5,4 @@ mod Rising
 mod Lists
 mod Shown
 mod Names
+mod LineEnds

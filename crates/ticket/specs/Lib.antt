@@ -6,3 +6,4 @@ pub mod Words
 pub mod Entries
 pub mod Lines
 pub mod Fields
+pub mod Tickets

@@ -2,6 +2,7 @@
 
 pub mod entry;
 pub mod line;
+pub mod lines;
 pub mod list;
 pub mod numbers;
 pub mod parts;
