@@ -7,3 +7,4 @@ pub mod Entries
 pub mod Lines
 pub mod Fields
 pub mod Tickets
+pub mod Rows

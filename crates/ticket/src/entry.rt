@@ -1,6 +1,8 @@
 //! What a line of a ticket says.
 
 ghost use Prim.Native.Nat.{_≤_};
+ghost use Rattle.std.specs.Written.{decimal};
+ghost use Rattle.std.specs.declared.option.Option.the-variants.{Some};
 use super::list::PlaceList;
 use super::word::MemberWord;
 use super::word::PairWord;
@@ -8,6 +10,7 @@ use super::word::TripleWord;
 use bales::Place;
 use bales::Ranged;
 use bales::Weight;
+use std::fmt;
 
 /// The number of a cell as tickets write it, 1 to 99.
 #[derive(Clone, Copy)]
@@ -111,5 +114,23 @@ pub impl Ranged for CutLimit as CutLimitRanged {
         } else {
             None
         }
+    }
+}
+
+pub impl fmt::Display for CellNumber as CellNumberDisplay {
+    ghost shown = { λ c. Some (decimal (c .number)) };
+
+    fn fmt<W: fmt::Write>(&self, f: &mut fmt::Formatter<W>) -> fmt::Result {
+        let number = self.number;
+        write!(f, "{number}")
+    }
+}
+
+pub impl fmt::Display for End as EndDisplay {
+    ghost shown = { λ e. Some (decimal (e .value)) };
+
+    fn fmt<W: fmt::Write>(&self, f: &mut fmt::Formatter<W>) -> fmt::Result {
+        let value = self.value;
+        write!(f, "{value}")
     }
 }

@@ -6,6 +6,7 @@ pub mod lines;
 pub mod list;
 pub mod numbers;
 pub mod parts;
+pub mod row;
 pub mod vocabulary;
 pub mod word;
 
