@@ -6,3 +6,4 @@ mod Lists
 mod Shown
 mod Names
 mod LineEnds
+mod RowsBack

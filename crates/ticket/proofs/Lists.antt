@@ -18,13 +18,13 @@ use Rattle.std.specs.declared.option.Option.the-variants.{Some, None}
 use Rattle.std.proofs.shelf.Ways.{tells}
 use Rattle.std.proofs.shelf.Tests.{cond-both}
 use Rattle.std.proofs.shelf.Numerals.{numerals-by-value, tells-digits, not-in-digits}
-use Rattle.std.proofs.shelf.Decimals.{digits-decimal, decimal-some}
-use Rattle.std.proofs.shelf.Lists.{append-nil, getD-append-left, length-map}
-use Rattle.ticket.specs.Parts.{partsOf, onHead, rejoined}
+use Rattle.std.proofs.shelf.Decimals.{digits-decimal, decimal-some, length-decimal-le}
+use Rattle.std.proofs.shelf.Lists.{append-nil, getD-append-left, length-map, length-append}
+use Rattle.ticket.specs.Parts.{partsOf, onHead, rejoined, Lacks, All}
 use Rattle.ticket.specs.Numbers.{numberOf, within}
 use Rattle.ticket.specs.Lists.{thenO, rising, dash, listOf, plus, listText, placesFrom, members, listed, Lists-round}
 use Rattle.ticket.specs.declared.list.PlaceList.{PlaceList}
-use Rattle.ticket.proofs.Cuts.{Free, parts-whole, parts-cut, parts-some, rejoined-parts}
+use Rattle.ticket.proofs.Cuts.{Free, lacks-free, free-lacks, parts-whole, parts-cut, parts-some, rejoined-parts}
 use Rattle.ticket.proofs.Digits.{numbers-round}
 use Rattle.ticket.proofs.Members.{double, double-suc}
 
@@ -38,8 +38,11 @@ rising-from zero p m last lt le = tt
 rising-from (suc f) p m last lt le = cond-both (eqb (m % 2) 1) _ _ (Rising last) (λ _. (lt, omega arith, rising-from f (p + 1) (m / 2) p (omega arith) (omega arith))) (λ _. rising-from f (p + 1) (m / 2) last (omega arith) (omega arith))
 
 -- written and read again
+pub digits-free : (c n : ℕ) → n < 2 ^ 64 → c < 48 → Free c (decimal n)
+digits-free c n small lt k h e = not-in-digits (numerals-by-value _ tells-digits) (decimal n) c (digits-decimal (numerals-by-value _ tells-digits) n small) (λ i. omega arith) k h e
+
 free : (c n : ℕ) → n ≤ 99 → c < 48 → Free c (decimal n)
-free c n le lt k h e = not-in-digits (numerals-by-value _ tells-digits) (decimal n) c (digits-decimal (numerals-by-value _ tells-digits) n (omega arith)) (λ i. omega arith) k h e
+free c n le lt = digits-free c n (omega arith) lt
 
 reads-on : (last p : ℕ) (ps : List ℕ) → last < p → p ≤ 99 → Rising p ps → rising last (partsOf 43 (decimal p ++ joined plus ps)) ≡ Some (p ∷ ps)
 reads-on last p [] lt le r = rw (append-nil, parts-whole 43 (decimal p) (free 43 p le (omega arith)), numbers-round .read-back (last + 1) 99 p (omega arith) (omega arith) le)
@@ -56,6 +59,25 @@ reads (p ∷ ps) r =
     let some = decimal-some p (omega arith) in
     let f = getD-append-left (decimal p) (joined plus ps) 0 0 some in
     no-dash (listText (p ∷ ps)) _ (λ e. free 45 p (r .1) (omega arith) 0 some (sym f ∙ e)) ∙ reads-on 0 p ps (r .0) (r .1) (r .2)
+
+-- no comma stands in a list
+free-append : (c : ℕ) (xs ys : List ℕ) → Free c xs → Free c ys → Free c (xs ++ ys)
+free-append c xs ys f g = free-lacks c (xs ++ ys) (lacks-append c xs ys (lacks-free c xs f) (lacks-free c ys g))
+  where
+  lacks-append : (c : ℕ) (xs ys : List ℕ) → Lacks c xs → Lacks c ys → Lacks c (xs ++ ys)
+  lacks-append c [] ys l m = m
+  lacks-append c (x ∷ xs) ys l m = (l .0, lacks-append c xs ys (l .1) m)
+
+free-one : (c x : ℕ) (xs : List ℕ) → (x ≡ c → ⊥) → Free c xs → Free c (x ∷ xs)
+free-one c x xs ne f = free-lacks c (x ∷ xs) (ne, lacks-free c xs f)
+
+plus-free : (last : ℕ) (ps : List ℕ) → Rising last ps → Free 44 (joined plus ps)
+plus-free last [] r = free-lacks 44 [] tt
+plus-free last (p ∷ ps) r = free-append 44 (plus p) (joined plus ps) (free-one 44 43 (decimal p) (λ e. omega (arith, e)) (free 44 p (r .1) (omega arith))) (plus-free p ps (r .2))
+
+rising-free : (ps : List ℕ) → Rising 0 ps → Free 44 (listText ps)
+rising-free [] r = free-one 44 45 [] (λ e. omega (arith, e)) (free-lacks 44 [] tt)
+rising-free (p ∷ ps) r = free-append 44 (decimal p) (joined plus ps) (free 44 p (r .1) (omega arith)) (plus-free p ps (r .2))
 
 -- read and written again
 written-at : (last : ℕ) (p : List ℕ) (ps : List (List ℕ)) (res : List ℕ) → ((n : ℕ) (ns : List ℕ) → rising n ps ≡ Some ns → ps ≡ map decimal ns) → (o : Option ℕ) → within (last + 1) 99 (numberOf p) ≡ o → (q : (n : ℕ) → Option (List ℕ)) → ((n : ℕ) → rising n ps ≡ q n) → thenO o (λ n. mapped (λ ns. n ∷ ns) (q n)) ≡ Some res → p ∷ ps ≡ map decimal res
@@ -122,6 +144,28 @@ list-same k l e = λ i. record { bits = e i; few = isProp→PathP (λ j. e j < 2
 members-rise : (m : ℕ) → Rising 0 (members m)
 unfolding members
 members-rise m = rising-from 99 1 m 0 (omega arith) (omega arith)
+
+pub list-free : (l : PlaceList) → Free 44 (listText (listed l))
+list-free l = rising-free (listed l) (members-rise (l .bits))
+
+-- a list of a ticket's own places is short
+two-digits : (n : ℕ) → n ≤ 99 → length (decimal n) ≤ 2
+two-digits n le = length-decimal-le 2 n (omega arith) (omega arith) (omega arith)
+
+few-places : (last : ℕ) (ps : List ℕ) → Rising last ps → last ≤ 64 → All (λ p. p ≤ 64) ps → length ps + last ≤ 64
+few-places last [] r le a = omega arith
+few-places last (p ∷ ps) r le a = omega (arith, r .0, few-places p ps (r .2) (a .0) (a .1))
+
+short-joined : (last : ℕ) (ps : List ℕ) → Rising last ps → length (joined plus ps) ≤ 3 * length ps
+short-joined last [] r = omega arith
+short-joined last (p ∷ ps) r = omega (arith, length-append (plus p) (joined plus ps), two-digits p (r .1), short-joined p ps (r .2))
+
+short-list : (ps : List ℕ) → Rising 0 ps → length (listText ps) ≤ 3 * length ps + 1
+short-list [] r = omega arith
+short-list (p ∷ ps) r = omega (arith, length-append (decimal p) (joined plus ps), two-digits p (r .1), short-joined p ps (r .2))
+
+pub list-fits : (l : PlaceList) → All (λ p. p ≤ 64) (listed l) → length (listText (listed l)) ≤ 193
+list-fits l a = let r = members-rise (l .bits) in omega (arith, short-list (listed l) r, few-places 0 (listed l) r (omega arith) a)
 
 pub lists-round : Lists-round
 lists-round = record {

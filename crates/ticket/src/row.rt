@@ -27,3 +27,9 @@ pub impl fmt::Display for Row as RowDisplay {
         }
     }
 }
+
+/// Rows go to text and back without loss.
+pub fn rows_round()
+    ensures { λ _. ⌜ Rows-round ⌝ }
+{
+}
