@@ -55,6 +55,7 @@ readings dialect n (l ∷ ls) = lineAt dialect n l ∷ readings dialect (n + 1) 
 -- a ticket of at most 65,536 bytes is read to its end: an entry or a fault for each line
 pub record Reads (dialect : Dialect) (s : List ℕ) (items : List (Result Entry Fault)) : Type 0 where
   pub small : length s ≤ 65536
+  pub few : length items ≤ 65536
   pub each : map told items ≡ readings dialect 1 (linesOf s)
 
 -- a larger ticket is refused whole with 17; the one other way to fail is want of memory

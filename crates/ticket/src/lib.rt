@@ -16,6 +16,8 @@ pub use entry::End;
 pub use entry::Entry;
 pub use entry::Row;
 pub use entry::Statement;
+pub use lines::Reading;
+pub use lines::read_ticket;
 pub use list::PlaceList;
 pub use word::Dialect;
 pub use word::MemberWord;
