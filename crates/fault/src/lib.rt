@@ -5,7 +5,6 @@ ghost use Rattle.std.specs.declared.option.Option.the-variants.{Some};
 ghost use Rattle.fault.specs.Text.{layerText, faultText};
 ghost use Rattle.fault.specs.Refusals.{numberOf, layerOf, namesField, faultOf};
 
-
 pub mod failure;
 
 pub use failure::Failure;

@@ -47,7 +47,10 @@ fn run_open(list: OpenList, line: u32, entry: Entry) -> (Part, Result<(), Fault>
             Err(fault) => (Part::Open(list), Err(fault)),
         },
         Entry::Declare(_) | Entry::State(_) | Entry::Settle(_) => {
-            (Part::Open(list), Err(Fault::new(Refusal::WrongPart, line, 0)))
+            (
+                Part::Open(list),
+                Err(Fault::new(Refusal::WrongPart, line, 0)),
+            )
         }
     }
 }
@@ -59,7 +62,10 @@ fn run_closed(list: ClosedList, line: u32, entry: Entry) -> (Part, Result<(), Fa
 {
     match entry {
         Entry::Bale(_, _) | Entry::Close => {
-            (Part::Closed(list), Err(Fault::new(Refusal::WrongPart, line, 0)))
+            (
+                Part::Closed(list),
+                Err(Fault::new(Refusal::WrongPart, line, 0)),
+            )
         }
         Entry::Declare(_) | Entry::State(_) | Entry::Settle(_) => (Part::Closed(list), Ok(())),
     }

@@ -33,7 +33,7 @@ valueOn n (c ∷ cs) = valueOn (n * 10 + (c - 48)) cs
 
 own : Numerals (λ ds. allDigits ds ≡ true) (valueOn 0)
 own = numerals-by-fold _ (search needs) valueOn (search needs)
-  
+
 run : (n : ℕ) (ds : List ℕ) → allDigits ds ≡ true → digitsOn n ds ≡ Some (valueOn n ds)
 run n [] p = refl
 run n (c ∷ cs) p = let r = run (n * 10 + (c - 48)) cs in grind (arith, tells)
@@ -60,7 +60,7 @@ reads n small =
     let d = digits-decimal own n small in
     let v = value-decimal own n small in
     let one : getD (decimal n) 0 0 ≡ 48 → length (decimal n) ≡ 1 =
-        ⊎-elim (λ z. λ _. ap length (decimal-digit n (omega arith))) (λ p. λ e. absurd (omega (arith, first-decimal n p small))) (zero-or n) in
+    ⊎-elim (λ z. λ _. ap length (decimal-digit n (omega arith))) (λ p. λ e. absurd (omega (arith, first-decimal n p small))) (zero-or n) in
     shape (decimal n) (decimal-some n small) one ∙ run 0 (decimal n) d ∙ ap Some v
 
 writes : (n : ℕ) (s : List ℕ) → n < 2 ^ 64 → numberOf s ≡ Some n → decimal n ≡ s

@@ -65,9 +65,9 @@ module _ (p t : List ℕ) (ls : List (List ℕ)) where
       ⊎-elim
       (λ e. inl (more-line ∙ ap (λ x. p ++ (10 ∷ x)) e))
       (λ h. let l = length-append p (10 ∷ t) in
-        let e : length (10 ∷ t) - 1 ≡ 1 + (length t - 1) = omega (arith, h .1) in
-        let d : getD (10 ∷ t) (length (10 ∷ t) - 1) 0 ≡ getD t (length t - 1) 0 = ap (λ k. getD (10 ∷ t) k 0) e ∙ getD-append-add (10 ∷ []) t (length t - 1) 0 in
-        inr (more-line ∙ ap (λ x. p ++ (10 ∷ x)) (h .0) ∙ sym (append-assoc p (10 ∷ t) (10 ∷ [])), omega arith, λ x. h .2 (sym d ∙ sym (last-of p (10 ∷ t) (omega arith)) ∙ x)))
+      let e : length (10 ∷ t) - 1 ≡ 1 + (length t - 1) = omega (arith, h .1) in
+      let d : getD (10 ∷ t) (length (10 ∷ t) - 1) 0 ≡ getD t (length t - 1) 0 = ap (λ k. getD (10 ∷ t) k 0) e ∙ getD-append-add (10 ∷ []) t (length t - 1) 0 in
+      inr (more-line ∙ ap (λ x. p ++ (10 ∷ x)) (h .0) ∙ sym (append-assoc p (10 ∷ t) (10 ∷ [])), omega arith, λ x. h .2 (sym d ∙ sym (last-of p (10 ∷ t) (omega arith)) ∙ x)))
 
 whole-ended : (ps : List (List ℕ)) → 0 < length ps → All (Lacks 10) ps → Whole (rejoined 10 ps) (ended ps)
 whole-ended [] some a = absurd (omega arith)

@@ -64,9 +64,9 @@ reads (p ∷ ps) r =
 free-append : (c : ℕ) (xs ys : List ℕ) → Free c xs → Free c ys → Free c (xs ++ ys)
 free-append c xs ys f g = free-lacks c (xs ++ ys) (lacks-append c xs ys (lacks-free c xs f) (lacks-free c ys g))
   where
-  lacks-append : (c : ℕ) (xs ys : List ℕ) → Lacks c xs → Lacks c ys → Lacks c (xs ++ ys)
-  lacks-append c [] ys l m = m
-  lacks-append c (x ∷ xs) ys l m = (l .0, lacks-append c xs ys (l .1) m)
+    lacks-append : (c : ℕ) (xs ys : List ℕ) → Lacks c xs → Lacks c ys → Lacks c (xs ++ ys)
+    lacks-append c [] ys l m = m
+    lacks-append c (x ∷ xs) ys l m = (l .0, lacks-append c xs ys (l .1) m)
 
 free-one : (c x : ℕ) (xs : List ℕ) → (x ≡ c → ⊥) → Free c xs → Free c (x ∷ xs)
 free-one c x xs ne f = free-lacks c (x ∷ xs) (ne, lacks-free c xs f)
@@ -84,9 +84,9 @@ written-at : (last : ℕ) (p : List ℕ) (ps : List (List ℕ)) (res : List ℕ)
 written-at last p ps res ih None w q h e = absurd (grind arith)
 written-at last p ps res ih (Some n) w q h e = at (q n) refl e
   where
-  at : (o : Option (List ℕ)) → q n ≡ o → mapped (λ ns. n ∷ ns) o ≡ Some res → p ∷ ps ≡ map decimal res
-  at None k f = absurd (grind arith)
-  at (Some ns) k f = let d = numbers-round .written-back (last + 1) 99 n p (omega arith) w in let i = ih n ns (h n ∙ k) in let r : n ∷ ns ≡ res = grind arith in ap (λ x. x ∷ ps) (sym (d .0)) ∙ ap (λ x. decimal n ∷ x) i ∙ ap (map decimal) r
+    at : (o : Option (List ℕ)) → q n ≡ o → mapped (λ ns. n ∷ ns) o ≡ Some res → p ∷ ps ≡ map decimal res
+    at None k f = absurd (grind arith)
+    at (Some ns) k f = let d = numbers-round .written-back (last + 1) 99 n p (omega arith) w in let i = ih n ns (h n ∙ k) in let r : n ∷ ns ≡ res = grind arith in ap (λ x. x ∷ ps) (sym (d .0)) ∙ ap (λ x. decimal n ∷ x) i ∙ ap (map decimal) r
 
 written : (last : ℕ) (ps : List (List ℕ)) (res : List ℕ) → rising last ps ≡ Some res → ps ≡ map decimal res
 written last [] res e = let r : [] ≡ res = grind arith in ap (map decimal) r

@@ -42,7 +42,7 @@ push-from (suc k) (suc f) p m lt le =
     ∙ ap (λ x. cond (eqb (m % 2) 1) (p ∷ placesFrom f (p + 1) x) (placesFrom f (p + 1) x)) h
     ∙ ap (λ x. cond (eqb (m % 2) 1) (p ∷ x) x) (r ∙ ap (λ x. placesFrom f (p + 1) (m / 2) ++ (x ∷ [])) q)
     ∙ cond-both (eqb (m % 2) 1) _ _ (λ xs. cond (eqb (m % 2) 1) (p ∷ (placesFrom f (p + 1) (m / 2) ++ ((p + suc k) ∷ []))) (placesFrom f (p + 1) (m / 2) ++ ((p + suc k) ∷ [])) ≡ xs ++ ((p + suc k) ∷ []))
-      (λ t. rw t) (λ t. rw t)
+    (λ t. rw t) (λ t. rw t)
 
 pub members-push : (m n : ℕ) → 1 ≤ n → n ≤ 99 → m < 2 ^ (n - 1) → members (m + 2 ^ (n - 1)) ≡ members m ++ (n ∷ [])
 unfolding members

@@ -74,10 +74,13 @@ module _ {W : Type 0} (took : W → List ℕ → W → Type 0) where
 
   module _ (ms : List ℕ) (e : Formatter W) (p m : ℕ) (first : Bool) (f : Formatter W) (so-far : Writing took ms e p m first f) where
     pub writing-take : p < 100 → m % 2 ≡ 1 → (r : Result (Unit {0}) Error) (h : Formatter W) → isOk r ≡ true → Prints took f r (cond first (decimal p) (plus p)) h → (b : Bool) (g : Formatter W) → b ≡ false → g ≡ h → Writing took ms e (p + 1) (m / 2) b g
-    writing-take lt o r h ok w b g be ge =
-        (so-far .0 ++ (p ∷ []), from-take (so-far .0) ms p m lt o (so-far .1), be ∙ sym (some-push (so-far .0) p),
-          λ plain. let x = so-far .3 plain in
-            put-to took _ _ _ _ ge (put-is took _ _ _ _ (ap (λ y. textOf (so-far .0) ++ cond y (decimal p) (plus p)) (so-far .2) ∙ sym (text-push (so-far .0) p)) (put-more took _ _ _ _ _ x (w (x .plain) ok))))
+    writing-take lt o r h ok w b g be ge = (
+      so-far .0 ++ (p ∷ []),
+      from-take (so-far .0) ms p m lt o (so-far .1),
+      be ∙ sym (some-push (so-far .0) p),
+      λ plain. let x = so-far .3 plain in
+          put-to took _ _ _ _ ge (put-is took _ _ _ _ (ap (λ y. textOf (so-far .0) ++ cond y (decimal p) (plus p)) (so-far .2) ∙ sym (text-push (so-far .0) p)) (put-more took _ _ _ _ _ x (w (x .plain) ok))),
+    )
 
     pub writing-pass : p < 100 → (m % 2 ≡ 1 → ⊥) → (b : Bool) (g : Formatter W) → b ≡ first → g ≡ f → Writing took ms e (p + 1) (m / 2) b g
     writing-pass lt o b g be ge = (so-far .0, from-pass (so-far .0) ms p m lt o (so-far .1), be ∙ so-far .2, λ plain. put-to took _ _ _ _ ge (so-far .3 plain))

@@ -8,6 +8,7 @@ ghost use Rattle.std.specs.Options.{mapped};
 ghost use Rattle.ticket.specs.Answers.{Gives};
 ghost use Rattle.ticket.specs.Entries.{said};
 ghost use Rattle.ticket.specs.Fields.{following, After};
+ghost use Rattle.ticket.specs.Rows.{Rows-round};
 ghost use Rattle.ticket.specs.Lines.{dashAt, baleAt, groupAt, rangeAt, pairAt, tripleAt, memberAt, statementAt, settleAt, bodyAt, lineAt};
 use super::entry::CellNumber;
 use super::entry::CellNumberRanged;
@@ -163,7 +164,12 @@ fn read_settle(rest: Option<&[u8]>, line: u32) -> Result<Entry, Fault>
 }
 
 /// The fields after the letter.
-fn read_body(dialect: Dialect, letter: Letter, rest: Option<&[u8]>, line: u32) -> Result<Entry, Fault>
+fn read_body(
+    dialect: Dialect,
+    letter: Letter,
+    rest: Option<&[u8]>,
+    line: u32,
+) -> Result<Entry, Fault>
     ensures { λ r. ⌜ Gives said r (bodyAt dialect line (following (mapped now (rest .entry))) letter) ⌝ }
 {
     match letter {
@@ -177,9 +183,10 @@ fn read_body(dialect: Dialect, letter: Letter, rest: Option<&[u8]>, line: u32) -
 }
 
 /// What a line says, or the one fault that refuses it: too long, then its letter, then its count
-/// of fields, then the first field at fault.
+/// of fields, then the first field at fault. Rows go to text and back without loss.
 pub fn read_line(dialect: Dialect, text: &[u8], line: u32) -> Result<Entry, Fault>
-    ensures { λ r. ⌜ Gives said r (lineAt dialect line (now (text .entry))) ⌝ }
+    ensures value { λ r. ⌜ Gives said r (lineAt dialect line (now (text .entry))) ⌝ }
+    ensures rows { λ _. ⌜ Rows-round ⌝ }
 {
     if text.len() > LONGEST {
         return Err(Fault::new(Refusal::LineTooLong, line, 0));

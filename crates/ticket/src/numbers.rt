@@ -39,9 +39,11 @@ fn parse_number(text: &[u8]) -> Option<u32>
     }
 }
 
-/// A number of a ranged type, if the text is one.
+/// A number of a ranged type, if the text is one. A text is read as a number exactly where it is
+/// what is written of that number.
 pub fn parse_ranged<T: Ranged>(text: &[u8]) -> Option<T>
-    ensures { λ r. ⌜ mapped (T·Ranged .figure) r ≡ within (T·Ranged .low) (T·Ranged .high) (numberOf (now (text .entry))) ⌝ }
+    ensures value { λ r. ⌜ mapped (T·Ranged .figure) r ≡ within (T·Ranged .low) (T·Ranged .high) (numberOf (now (text .entry))) ⌝ }
+    ensures round { λ _. ⌜ Numbers-round ⌝ }
 {
     match parse_number(text) {
         Some(number) => T::from_number(number),
@@ -57,10 +59,4 @@ pub fn read_ranged<T: Ranged>(text: &[u8], line: u32, field: u8) -> Result<T, Fa
         Some(value) => Ok(value),
         None => Err(Fault::new(Refusal::BadNumber, line, field)),
     }
-}
-
-/// Numbers go to text and back without loss.
-pub fn numbers_round()
-    ensures { λ _. ⌜ Numbers-round ⌝ }
-{
 }

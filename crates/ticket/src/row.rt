@@ -1,9 +1,9 @@
-//! Rows written as text, and the round trip of rows.
+//! Rows written as text.
 
 ghost use Rattle.std.specs.Written.{decimal};
 ghost use Rattle.std.specs.declared.option.Option.the-variants.{Some};
 ghost use Rattle.ticket.specs.Entries.{bounds};
-ghost use Rattle.ticket.specs.Rows.{rowText, Rows-round};
+ghost use Rattle.ticket.specs.Rows.{rowText};
 use super::entry::CellNumber;
 use super::entry::CellNumberDisplay;
 use super::entry::End;
@@ -26,10 +26,4 @@ pub impl fmt::Display for Row as RowDisplay {
             Row::Number { cell, low, high } => write!(f, "N,{cell},{low},{high}"),
         }
     }
-}
-
-/// Rows go to text and back without loss.
-pub fn rows_round()
-    ensures { λ _. ⌜ Rows-round ⌝ }
-{
 }

@@ -8,11 +8,11 @@ ghost use Rattle.std.specs.Of.Vec.{vec-len, vec-items};
 ghost use Rattle.std.specs.Results.{isOk};
 ghost use Rattle.std.specs.Vec.{made};
 ghost use Rattle.bales.specs.Lists.{weights, openWeights, closedWeights, entering, closing};
+use super::super::bale::Place;
+use super::super::bale::Weight;
 use super::Bale;
 use super::ClosedList;
 use super::OpenList;
-use super::super::bale::Place;
-use super::super::bale::Weight;
 use fault::Fault;
 use fault::Refusal;
 use std::alloc::AllocError;
@@ -64,12 +64,12 @@ impl OpenList {
 
 #[cfg(test)]
 mod tests {
-    use fault::FaultDebug;
-    use fault::FaultPartialEq;
-    use super::*;
     use super::super::super::bale::PlaceRanged;
     use super::super::super::bale::WeightRanged;
     use super::super::super::ranged::Ranged;
+    use super::*;
+    use fault::FaultDebug;
+    use fault::FaultPartialEq;
     use std::test::*;
 
     #[test]
@@ -85,7 +85,10 @@ mod tests {
         let Some(weight) = Weight::from_number(480) else {
             return Err(Fail::new("no weight"));
         };
-        check_eq(list.enter(2, second, weight), Err(Fault::new(Refusal::NotNext, 2, 2)))?;
+        check_eq(
+            list.enter(2, second, weight),
+            Err(Fault::new(Refusal::NotNext, 2, 2)),
+        )?;
         check_eq(list.enter(3, first, weight), Ok(()))?;
         check_eq(list.enter(4, second, weight), Ok(()))?;
         check_eq(list.can_close(5), Ok(()))?;

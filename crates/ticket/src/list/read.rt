@@ -36,18 +36,14 @@ fn read_places(text: &[u8], line: u32, field: u8) -> Result<PlaceList, Fault>
     }
 }
 
-/// A list of rising places joined by `+`, or `-` for the empty list; anything else is refused as a bad list.
+/// A list of rising places joined by `+`, or `-` for the empty list; anything else is refused as
+/// a bad list. Lists go to text and back without loss.
 pub fn read_list(text: &[u8], line: u32, field: u8) -> Result<PlaceList, Fault>
-    ensures { λ r. ⌜ Gives listed r (listAt line field (now (text .entry))) ⌝ }
+    ensures value { λ r. ⌜ Gives listed r (listAt line field (now (text .entry))) ⌝ }
+    ensures round { λ _. ⌜ Lists-round ⌝ }
 {
     match text {
         [b'-'] => Ok(PlaceList { bits: 0 }),
         _ => read_places(text, line, field),
     }
-}
-
-/// Lists go to text and back without loss.
-pub fn lists_round()
-    ensures { λ _. ⌜ Lists-round ⌝ }
-{
 }

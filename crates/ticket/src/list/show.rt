@@ -32,10 +32,6 @@ pub impl fmt::Display for PlaceList as PlaceListDisplay {
             }
             rest /= 2;
         }
-        if first {
-            write!(f, "-")
-        } else {
-            Ok(())
-        }
+        if first { write!(f, "-") } else { Ok(()) }
     }
 }

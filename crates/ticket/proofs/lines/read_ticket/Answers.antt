@@ -19,9 +19,11 @@ returns-in-Break-push c =
 
 pub lines-again : need.lines-again
 lines-again c =
-    let t = c .take-line .ensures (c .lines-test .taken) in
-    (readings-more (c .args .dialect) (c .lines .line) (c .take-line .result .0 .now) (c .take-line .result .1 .now) (c .lines .rest .now) _ (vec-items (c .lines .readings)) (vec-items (c .push .last .self)) (c .read-line .result) (c .in-Continue-push .ensures tt .items) (told-is (c .read-line .result) _ (c .read-line .ensures)) (t .0) (c .lines .inv .0),
-      omega (arith, t .1, c .lines .inv .1), omega (arith, c .in-Continue-push .ensures tt .len, c .lines .inv .2))
+    let t = c .take-line .ensures (c .lines-test .taken) in (
+      readings-more (c .args .dialect) (c .lines .line) (c .take-line .result .0 .now) (c .take-line .result .1 .now) (c .lines .rest .now) _ (vec-items (c .lines .readings)) (vec-items (c .push .last .self)) (c .read-line .result) (c .in-Continue-push .ensures tt .items) (told-is (c .read-line .result) _ (c .read-line .ensures .value)) (t .0) (c .lines .inv .0),
+      omega (arith, t .1, c .lines .inv .1),
+      omega (arith, c .in-Continue-push .ensures tt .len, c .lines .inv .2),
+    )
 
 pub returns : need.returns
 returns c =
