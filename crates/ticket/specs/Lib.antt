@@ -8,3 +8,4 @@ pub mod Lines
 pub mod Fields
 pub mod Tickets
 pub mod Rows
+pub mod Rounds

@@ -1,10 +1,11 @@
 -- A text cut at each separator.
-use Prim.Native.Nat.{ℕ}
+use Prim.Native.Nat.{ℕ, _+_, _<_}
 use mathlib.Core.Bool.{cond}
 use mathlib.Core.List.{List, [], _∷_, _++_}
 use mathlib.Core.Path.{_≡_}
 use Rattle.std.specs.Joined.{joined}
 use lib.Dec.{eqb}
+use lib.ListN.{length, take, drop}
 
 abbrev pub onHead : ℕ → List (List ℕ) → List (List ℕ)
 onHead c [] = (c ∷ []) ∷ []
@@ -24,6 +25,18 @@ rejoined sep (p ∷ ps) = p ++ joined (λ q. sep ∷ q) ps
 abbrev pub Lacks : ℕ → List ℕ → Type 0
 Lacks sep [] = Unit {0}
 Lacks sep (c ∷ cs) = (c ≡ sep → ⊥) × Lacks sep cs
+
+-- a text without a separator is one part
+pub record Uncut (sep : ℕ) (s : List ℕ) : Type 0 where
+  pub plain : Lacks sep s
+  pub parts : partsOf sep s ≡ s ∷ []
+
+-- the first separator of a text stands at i
+pub record CutAt (sep : ℕ) (s : List ℕ) (i : ℕ) : Type 0 where
+  pub inside : i < length s
+  pub plain : Lacks sep (take i s)
+  pub whole : s ≡ take i s ++ (sep ∷ drop (i + 1) s)
+  pub parts : partsOf sep s ≡ take i s ∷ partsOf sep (drop (i + 1) s)
 
 abbrev pub All : {X : Type 0} → (X → Type 0) → List X → Type 0
 All P [] = Unit {0}

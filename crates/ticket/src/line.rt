@@ -2,13 +2,12 @@
 
 ghost use mathlib.Core.Path.{_≡_};
 ghost use mathlib.Core.List.{List, []};
-ghost use Prim.Native.Nat.{ℕ};
-ghost use lib.ListN.{getD};
+ghost use Prim.Native.Nat.{ℕ, _≤_};
+ghost use lib.ListN.{length, getD};
 ghost use Rattle.std.specs.Options.{mapped};
 ghost use Rattle.ticket.specs.Answers.{Gives};
 ghost use Rattle.ticket.specs.Entries.{said};
 ghost use Rattle.ticket.specs.Fields.{following, After};
-ghost use Rattle.ticket.specs.Rows.{Rows-round};
 ghost use Rattle.ticket.specs.Lines.{dashAt, baleAt, groupAt, rangeAt, pairAt, tripleAt, memberAt, statementAt, settleAt, bodyAt, lineAt};
 use super::entry::CellNumber;
 use super::entry::CellNumberRanged;
@@ -182,19 +181,26 @@ fn read_body(
     }
 }
 
-/// What a line says, or the one fault that refuses it: too long, then its letter, then its count
-/// of fields, then the first field at fault. Rows go to text and back without loss.
-pub fn read_line(dialect: Dialect, text: &[u8], line: u32) -> Result<Entry, Fault>
-    ensures value { λ r. ⌜ Gives said r (lineAt dialect line (now (text .entry))) ⌝ }
-    ensures rows { λ _. ⌜ Rows-round ⌝ }
+/// A line that is not too long.
+fn read_fields(dialect: Dialect, text: &[u8], line: u32) -> Result<Entry, Fault>
+    requires { ⌜ length (now text) ≤ 400 ⌝ }
+    ensures { λ r. ⌜ Gives said r (lineAt dialect line (now (text .entry))) ⌝ }
 {
-    if text.len() > LONGEST {
-        return Err(Fault::new(Refusal::LineTooLong, line, 0));
-    }
     let (head, rest) = cut(text, b',');
     let letter = read_letter(dialect, head, line)?;
     if count_parts(text, b',') != letter.field_count() {
         return Err(Fault::new(Refusal::FieldCount, line, 0));
     }
     read_body(dialect, letter, rest, line)
+}
+
+/// What a line says, or the one fault that refuses it: too long, then its letter, then its count
+/// of fields, then the first field at fault.
+pub fn read_line(dialect: Dialect, text: &[u8], line: u32) -> Result<Entry, Fault>
+    ensures { λ r. ⌜ Gives said r (lineAt dialect line (now (text .entry))) ⌝ }
+{
+    if text.len() > LONGEST {
+        return Err(Fault::new(Refusal::LineTooLong, line, 0));
+    }
+    read_fields(dialect, text, line)
 }

@@ -6,6 +6,7 @@ ghost use Prim.Native.Nat.{_<_};
 ghost use lib.ListN.{length};
 ghost use Rattle.std.specs.Results.{Cases};
 ghost use Rattle.std.specs.Of.Vec.{vec-items};
+ghost use Rattle.ticket.specs.Rounds.{Round-trips};
 ghost use Rattle.ticket.specs.Tickets.{linesOf, Splits, Reads, Refuses};
 use super::entry::Entry;
 use super::line::read_line;
@@ -35,8 +36,9 @@ fn take_line(text: &[u8]) -> (&[u8], &[u8])
 }
 
 /// Reads all lines of a ticket, each as its entry or its fault; only a ticket that is too large
-/// is refused whole.
+/// is refused whole. What is read goes to text and back without loss.
 pub fn read_ticket(heap: Global, dialect: Dialect, text: &[u8]) -> Result<Vec<Reading>, Failure>
+    ensures round { λ _. ⌜ Round-trips ⌝ }
     ensures lines { λ _. ⌜ Splits (now (text .entry)) (linesOf (now (text .entry))) ⌝ }
     ensures cases { λ r. ⌜ Cases r (λ v. Reads dialect (now (text .entry)) (vec-items v)) (Refuses (now (text .entry))) ⌝ }
 {

@@ -3,7 +3,7 @@
 ghost use mathlib.Core.Path.{_≡_};
 ghost use Rattle.std.specs.Options.{mapped};
 ghost use Rattle.ticket.specs.Answers.{Gives};
-ghost use Rattle.ticket.specs.Numbers.{digitsOn, numberOf, within, numberAt, Numbers-round};
+ghost use Rattle.ticket.specs.Numbers.{digitsOn, numberOf, within, numberAt};
 use bales::Ranged;
 use fault::Fault;
 use fault::Refusal;
@@ -39,11 +39,9 @@ fn parse_number(text: &[u8]) -> Option<u32>
     }
 }
 
-/// A number of a ranged type, if the text is one. A text is read as a number exactly where it is
-/// what is written of that number.
+/// A number of a ranged type, if the text is one.
 pub fn parse_ranged<T: Ranged>(text: &[u8]) -> Option<T>
-    ensures value { λ r. ⌜ mapped (T·Ranged .figure) r ≡ within (T·Ranged .low) (T·Ranged .high) (numberOf (now (text .entry))) ⌝ }
-    ensures round { λ _. ⌜ Numbers-round ⌝ }
+    ensures { λ r. ⌜ mapped (T·Ranged .figure) r ≡ within (T·Ranged .low) (T·Ranged .high) (numberOf (now (text .entry))) ⌝ }
 {
     match parse_number(text) {
         Some(number) => T::from_number(number),

@@ -1,13 +1,13 @@
 //! An open bale list: taking bales in turn, and closing.
 
 ghost use mathlib.Core.Path.{_≡_};
-ghost use mathlib.Core.Bool.{cond, true, false};
+ghost use mathlib.Core.Bool.{cond, false};
 ghost use mathlib.Core.List.{[], _∷_, _++_};
-ghost use Prim.Native.Nat.{_+_, _<_};
-ghost use Rattle.std.specs.Of.Vec.{vec-len, vec-items};
+ghost use Prim.Native.Nat.{_<_};
+ghost use lib.ListN.{length};
 ghost use Rattle.std.specs.Results.{isOk};
 ghost use Rattle.std.specs.Vec.{made};
-ghost use Rattle.bales.specs.Lists.{weights, openWeights, closedWeights, entering, closing};
+ghost use Rattle.bales.specs.Lists.{openWeights, closedWeights, entering, closing};
 use super::super::bale::Place;
 use super::super::bale::Weight;
 use super::Bale;
@@ -27,19 +27,33 @@ impl OpenList {
         Ok(OpenList { bales })
     }
 
+    fn count(&self) -> usize
+        ensures { λ r. ⌜ r ≡ length (openWeights (now (self .entry))) ⌝ }
+    {
+        self.bales.len()
+    }
+
+    /// Puts a bale behind the others.
+    fn put(&mut self, weight: Weight)
+        requires { ⌜ length (openWeights (now self)) < 64 ⌝ }
+        ensures { λ _. ⌜ openWeights (now (self .exit)) ≡ openWeights (now (self .entry)) ++ (weight .pounds ∷ []) ⌝ }
+    {
+        self.bales.push_reserved(Bale { weight });
+    }
+
     /// Takes a bale at the next place; refuses a 65th bale, then a place that is not the next.
     pub fn enter(&mut self, line: u32, place: Place, weight: Weight) -> Result<(), Fault>
         ensures answer { λ r. ⌜ r ≡ entering (openWeights (now (self .entry))) line (place .number) ⌝ }
         ensures after { λ r. ⌜ openWeights (now (self .exit)) ≡ cond (isOk r) (openWeights (now (self .entry)) ++ (weight .pounds ∷ [])) (openWeights (now (self .entry))) ⌝ }
         ensures same { λ r. ⌜ (isOk r ≡ false → now (self .exit) ≡ now (self .entry)) ⌝ }
     {
-        if self.bales.len() >= 64 {
+        if self.count() >= 64 {
             return Err(Fault::new(Refusal::Full, line, 0));
         }
-        if place.number() as usize != self.bales.len() + 1 {
+        if place.number() as usize != self.count() + 1 {
             return Err(Fault::new(Refusal::NotNext, line, 2));
         }
-        self.bales.push_reserved(Bale { weight });
+        self.put(weight);
         Ok(())
     }
 
@@ -47,7 +61,7 @@ impl OpenList {
     pub fn can_close(&self, line: u32) -> Result<(), Fault>
         ensures { λ r. ⌜ r ≡ closing (openWeights (now (self .entry))) line ⌝ }
     {
-        if self.bales.len() == 0 {
+        if self.count() == 0 {
             return Err(Fault::new(Refusal::NoBales, line, 0));
         }
         Ok(())

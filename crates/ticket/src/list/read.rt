@@ -1,8 +1,9 @@
 //! Lists of places read and written.
 
+ghost use mathlib.Core.List.{[]};
 ghost use mathlib.Core.Path.{_≡_};
 ghost use Rattle.ticket.specs.Answers.{Gives};
-ghost use Rattle.ticket.specs.Lists.{listed, risingAt, listAt, Lists-round};
+ghost use Rattle.ticket.specs.Lists.{listed, risingAt, listAt};
 use super::super::numbers::parse_ranged;
 use super::super::parts::cut;
 use super::PlaceList;
@@ -10,6 +11,12 @@ use bales::Place;
 use bales::PlaceRanged;
 use fault::Fault;
 use fault::Refusal;
+
+fn empty_list() -> PlaceList
+    ensures { λ r. ⌜ listed r ≡ [] ⌝ }
+{
+    PlaceList { bits: 0 }
+}
 
 /// The places of a list that is not `-`.
 fn read_places(text: &[u8], line: u32, field: u8) -> Result<PlaceList, Fault>
@@ -37,13 +44,12 @@ fn read_places(text: &[u8], line: u32, field: u8) -> Result<PlaceList, Fault>
 }
 
 /// A list of rising places joined by `+`, or `-` for the empty list; anything else is refused as
-/// a bad list. Lists go to text and back without loss.
+/// a bad list.
 pub fn read_list(text: &[u8], line: u32, field: u8) -> Result<PlaceList, Fault>
-    ensures value { λ r. ⌜ Gives listed r (listAt line field (now (text .entry))) ⌝ }
-    ensures round { λ _. ⌜ Lists-round ⌝ }
+    ensures { λ r. ⌜ Gives listed r (listAt line field (now (text .entry))) ⌝ }
 {
     match text {
-        [b'-'] => Ok(PlaceList { bits: 0 }),
+        [b'-'] => Ok(empty_list()),
         _ => read_places(text, line, field),
     }
 }

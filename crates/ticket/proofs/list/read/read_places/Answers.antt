@@ -22,7 +22,7 @@ add-bits c = let h = bit-more (c .parts .bits) (c .parts .last) (c .number-numbe
 pub parts-again : need.parts-again
 parts-again c =
     let h = bit-more (c .parts .bits) (c .parts .last) (c .number-number .result) (omega arith) (omega arith) (omega arith) in
-    let n : within 1 99 (numberOf (c .cut .result .0 .now)) ≡ Some (c .number-number .result) = sym (c .in-Some .ensures tt .value) ∙ ap Some (sym (c .number-number .ensures)) in
+    let n : within 1 99 (numberOf (c .cut .result .0 .now)) ≡ Some (c .number-number .result) = sym (c .in-Some .ensures tt) ∙ ap Some (sym (c .number-number .ensures)) in
     let e = rw (c .in-Some-more .is) at (c .cut .ensures .parts) in (
       place-more (partsOf 43 (c .parts .rest .now)) (c .cut .result .0 .now) (partsOf 43 (c .in-Some-more .after .now)) (c .parts .bits) (c .parts .last) (c .number-number .result) _ _ (c .parts .inv .0) (e .0) n (omega arith) (omega arith) (h .0),
       omega arith,
@@ -35,7 +35,6 @@ ghost-result c = let h = bit-more (c .parts .bits) (c .parts .last) (c .number-n
 pub returns-in-None : need.returns-in-None
 returns-in-None c =
     let h = bit-more (c .parts .bits) (c .parts .last) (c .number-number .result) (omega arith) (omega arith) (omega arith) in
-    let n : within 1 99 (numberOf (c .cut .result .0 .now)) ≡ Some (c .number-number .result) = sym (c .in-Some .ensures tt .value) ∙ ap Some (sym (c .number-number .ensures)) in
+    let n : within 1 99 (numberOf (c .cut .result .0 .now)) ≡ Some (c .number-number .result) = sym (c .in-Some .ensures tt) ∙ ap Some (sym (c .number-number .ensures)) in
     let e = rw (c .in-None .is) at (c .cut .ensures .parts) in
-    ap (λ o. okOr o (faultOf BadList (c .args .line) (c .args .field)))
-    (place-end (partsOf 43 (c .parts .rest .now)) (c .cut .result .0 .now) (c .parts .bits) (c .parts .last) (c .number-number .result) _ _ (c .parts .inv .0) e n (omega arith) (omega arith) (h .0))
+    ap (λ o. okOr o (faultOf BadList (c .args .line) (c .args .field))) (place-end (partsOf 43 (c .parts .rest .now)) (c .cut .result .0 .now) (c .parts .bits) (c .parts .last) (c .number-number .result) _ _ (c .parts .inv .0) e n (omega arith) (omega arith) (h .0))

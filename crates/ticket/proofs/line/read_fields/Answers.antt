@@ -21,8 +21,7 @@ use Rattle.ticket.specs.Entries.{said}
 use Rattle.ticket.specs.Lines.{bodyAt, lineAt}
 use Rattle.ticket.specs.Words.{letterAt, fieldCount}
 use Rattle.ticket.specs.Fields.{following}
-use Rattle.ticket.proofs.RowsBack.{rows-round}
-use Rattle.ticket.proofs.line.read_line.Needs as need
+use Rattle.ticket.proofs.line.read_fields.Needs as need
 
 head-and-rest : (s head : List ℕ) (o : Option (RefT (List ℕ))) → Cases o (partsOf 44 s ≡ head ∷ []) (λ r. (partsOf 44 s ≡ head ∷ partsOf 44 (r .now)) × (length (r .now) < length s)) → partsOf 44 s ≡ head ∷ following (mapped now o)
 head-and-rest s head None h = h
@@ -34,17 +33,8 @@ body-is dialect line s head fs letter short e l n =
     let b : ltb 400 (length s) ≡ false = grind (arith, tells) in
     rw (b, e, l, eq-eqb (length fs + 1) (fieldCount letter) m)
 
-pub returns-then-text-gt-LONGEST : need.returns-then-text-gt-LONGEST
-returns-then-text-gt-LONGEST c = record { value = search needs; rows = rows-round }
-
-pub returns-in-Break-letter : need.returns-in-Break-letter
-returns-in-Break-letter c = record { value = search needs; rows = rows-round }
-
-pub returns-then-count-parts-field-count : need.returns-then-count-parts-field-count
-returns-then-count-parts-field-count c = record { value = search needs; rows = rows-round }
-
 pub returns : need.returns
 returns c =
     let e = head-and-rest (c .args .text .now) (c .cut .result .0 .now) (c .cut .result .1) (c .cut .ensures .parts) in
-    let b = body-is (c .args .dialect) (c .args .line) (c .args .text .now) (c .cut .result .0 .now) _ (c .in-Continue-letter .letter) (omega arith) e (sym (c .in-Continue-letter .ensures tt)) (sym (c .count-parts .ensures) ∙ c .if-count-parts-field-count .left ∙ c .field-count .ensures) in
-    record { value = subst (Gives said (c .read-body .result)) (sym b) (c .read-body .ensures); rows = rows-round }
+    let b = body-is (c .args .dialect) (c .args .line) (c .args .text .now) (c .cut .result .0 .now) _ (c .in-Continue-letter .letter) (c .pre) e (sym (c .in-Continue-letter .ensures tt)) (sym (c .count-parts .ensures) ∙ c .if-count-parts-field-count .left ∙ c .field-count .ensures) in
+    subst (Gives said (c .read-body .result)) (sym b) (c .read-body .ensures)
