@@ -11,7 +11,7 @@ use Rattle.fault.specs.declared.Refusal.the-variants.{TicketTooLong}
 use Rattle.fault.specs.Refusals.{faultOf}
 use Rattle.fault.specs.Text.{faultText}
 use Rattle.ticket.specs.declared.word.Dialect.the-variants.{Match}
-use Rattle.ticket.specs.Answers.{andThen}
+use Rattle.text.specs.Answers.{andThen}
 use Rattle.ticket.specs.Entries.{Said}
 use Rattle.ticket.specs.Tickets.{linesOf, readings}
 use Rattle.matching.specs.Parts.{Stage, taking, answering, following}

@@ -1,9 +1,3 @@
-mod Cuts
-mod Digits
-mod Members
-mod Rising
-mod Lists
-mod Shown
 mod Names
 mod LineEnds
 mod RowsBack

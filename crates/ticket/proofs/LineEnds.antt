@@ -11,13 +11,13 @@ use Rattle.std.specs.declared.result.Result.{Result}
 use Rattle.fault.specs.declared.Fault.{Fault}
 use Rattle.ticket.specs.declared.entry.Entry.{Entry}
 use Rattle.ticket.specs.declared.word.Dialect.{Dialect}
-use Rattle.ticket.specs.Parts.{partsOf, rejoined, Lacks, All}
+use Rattle.text.specs.Parts.{partsOf, rejoined, Lacks, All}
 use Rattle.std.specs.declared.result.Result.the-variants.{Ok, Err}
-use Rattle.ticket.specs.Answers.{Gives}
+use Rattle.text.specs.Answers.{Gives}
 use Rattle.ticket.specs.Entries.{Said, said}
 use Rattle.ticket.specs.Lines.{lineAt}
 use Rattle.ticket.specs.Tickets.{lastLine, ended, linesOf, linesText, Splits, told, readings}
-use Rattle.ticket.proofs.Cuts.{parts-some, rejoined-parts, parts-lack, free-lacks}
+use Rattle.text.proofs.Cuts.{parts-some, rejoined-parts, parts-lack, free-lacks}
 
 ended-more : (p : List ℕ) (ps : List (List ℕ)) → 0 < length ps → ended (p ∷ ps) ≡ p ∷ ended ps
 ended-more p [] some = absurd (omega arith)

@@ -21,3 +21,7 @@ apart xs ys r d ne false e = refl
 pub named-more : (ws : List Word) (i : ℕ) (s name : List ℕ) (r : Bool) (w : Word) → i < length ws → name ≡ nameOf (getD ws i w) → Decides r (name ≡ s) → r ≡ false → named (drop i ws) s ≡ named (drop (i + 1) ws) s
 named-more ws i s name r w lt e d ne =
     at-drop-more (λ vs. named vs s) ws i w lt ∙ ap (λ b. cond b (Some (getD ws i w)) (named (drop (i + 1) ws) s)) (ap (λ n. sameBytes n s) (sym e) ∙ apart name s r d ne (sameBytes name s) refl)
+
+pub named-here : (ws : List Word) (i : ℕ) (s name : List ℕ) (r : Bool) (w : Word) → i < length ws → name ≡ nameOf (getD ws i w) → Decides r (name ≡ s) → r ≡ true → named (drop i ws) s ≡ Some (getD ws i w)
+named-here ws i s name r w lt e d is =
+    at-drop-more (λ vs. named vs s) ws i w lt ∙ ap (λ b. cond b (Some (getD ws i w)) (named (drop (i + 1) ws) s)) (sameBytes-decides (nameOf (getD ws i w)) s .1 (sym e ∙ d .0 is))

@@ -21,7 +21,7 @@ use Rattle.std.proofs.shelf.Ways.{tells}
 use Rattle.std.proofs.shelf.Decimals.{length-decimal-le}
 use Rattle.std.proofs.shelf.Lists.{length-append}
 use Rattle.fault.specs.declared.Fault.{Fault}
-use Rattle.ticket.specs.declared.list.PlaceList.{PlaceList}
+use Rattle.text.specs.declared.list.PlaceList.{PlaceList}
 use Rattle.ticket.specs.declared.entry.CellNumber.{CellNumber}
 use Rattle.ticket.specs.declared.entry.End.{End}
 use Rattle.ticket.specs.declared.entry.Row.{Row}
@@ -32,17 +32,17 @@ use Rattle.ticket.specs.declared.word.Letter.{Letter}
 use Rattle.ticket.specs.declared.word.Letter.the-variants.{Bale as BaleLetter, Close as CloseLetter, Group as GroupLetter, Number as NumberLetter, State as StateLetter, Settle as SettleLetter}
 use Rattle.ticket.specs.declared.word.Word.{Word}
 use Rattle.ticket.specs.declared.word.Word.the-variants.{Pair, Triple, Member}
-use Rattle.ticket.specs.Answers.{andThen}
+use Rattle.text.specs.Answers.{andThen}
 use Rattle.ticket.specs.Entries.{Bounds, group, number, Said, declare, bounds}
 use Rattle.ticket.specs.Lines.{fieldsOf, fieldsAt, lineAt, bodyAt, countedAt, groupAt, rangeAt, cellAt, placeAt, weightAt, amountAt, placesAt, unusedAt, field, baleAt, settleAt, operandsAt}
-use Rattle.ticket.specs.Lists.{listOf, listAt, listText, listed, plus}
-use Rattle.ticket.specs.Numbers.{numberOf, within, numberAt}
-use Rattle.ticket.specs.Parts.{partsOf, rejoined, All}
+use Rattle.text.specs.Lists.{listOf, listAt, listText, listed, plus}
+use Rattle.text.specs.Numbers.{numberOf, within, numberAt}
+use Rattle.text.specs.Parts.{partsOf, rejoined, All}
 use Rattle.ticket.specs.Rows.{rowText, rowLetter, OnTicket, Rows-round}
 use Rattle.ticket.specs.Words.{knowsLetter, known, letterOf, letterAt, wordAt, fieldCount}
-use Rattle.ticket.proofs.Cuts.{Free, free-lacks, parts-whole, parts-cut, rejoined-parts}
-use Rattle.ticket.proofs.Digits.{numbers-round}
-use Rattle.ticket.proofs.Lists.{lists-round, digits-free, list-free, list-fits}
+use Rattle.text.proofs.Cuts.{Free, free-lacks, parts-whole, parts-cut, rejoined-parts}
+use Rattle.text.proofs.Digits.{numbers-round}
+use Rattle.text.proofs.Lists.{lists-round, digits-free, list-free, list-fits}
 
 -- the four fields of a row
 one-free : (letter : ℕ) → (letter ≡ 44 → ⊥) → Free 44 (letter ∷ [])

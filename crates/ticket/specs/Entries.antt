@@ -10,7 +10,7 @@ use Rattle.ticket.specs.declared.entry.Statement.{Statement}
 use Rattle.ticket.specs.declared.entry.Statement.the-variants.{Pair, Triple, Member}
 use Rattle.ticket.specs.declared.entry.Entry.{Entry}
 use Rattle.ticket.specs.declared.entry.Entry.the-variants.{Bale, Close, Declare, State, Settle}
-use Rattle.ticket.specs.Lists.{listed}
+use Rattle.text.specs.Lists.{listed}
 
 -- a cell and its sure and possible places, or a cell and its ends
 pub data Bounds : Type 0 where

@@ -5,7 +5,7 @@ use mathlib.Core.Path.{_≡_}
 use lib.ListN.{getD}
 use Rattle.std.specs.declared.option.Option.{Option}
 use Rattle.std.specs.declared.option.Option.the-variants.{Some, None}
-use Rattle.ticket.specs.Parts.{partsOf}
+use Rattle.text.specs.Parts.{partsOf}
 
 -- the fields of what follows a comma, and none where no comma is left
 abbrev pub following : Option (List ℕ) → List (List ℕ)

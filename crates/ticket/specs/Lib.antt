@@ -1,7 +1,3 @@
-pub mod Answers
-pub mod Numbers
-pub mod Parts
-pub mod Lists
 pub mod Words
 pub mod Entries
 pub mod Lines

@@ -17,10 +17,10 @@ use Rattle.ticket.specs.declared.word.MemberWord.{MemberWord}
 use Rattle.ticket.specs.declared.word.Dialect.{Dialect}
 use Rattle.ticket.specs.declared.word.Letter.{Letter}
 use Rattle.ticket.specs.declared.word.Letter.the-variants.{Bale, Close, Group, Number, State, Settle}
-use Rattle.ticket.specs.Answers.{andThen}
-use Rattle.ticket.specs.Numbers.{numberAt}
-use Rattle.ticket.specs.Lists.{listAt}
-use Rattle.ticket.specs.Parts.{partsOf}
+use Rattle.text.specs.Answers.{andThen}
+use Rattle.text.specs.Numbers.{numberAt}
+use Rattle.text.specs.Lists.{listAt}
+use Rattle.text.specs.Parts.{partsOf}
 use Rattle.ticket.specs.Words.{letterAt, wordAt, fieldCount}
 use Rattle.ticket.specs.Entries.{Bounds, group, number, Claim, pair, triple, member, Said, bale, close, declare, state, settle}
 

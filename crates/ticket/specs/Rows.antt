@@ -13,8 +13,8 @@ use Rattle.ticket.specs.declared.word.Letter.{Letter}
 use Rattle.ticket.specs.declared.word.Letter.the-variants.{Group, Number}
 use Rattle.ticket.specs.Entries.{Bounds, group, number, Said, declare, bounds}
 use Rattle.ticket.specs.Lines.{lineAt}
-use Rattle.ticket.specs.Lists.{listText}
-use Rattle.ticket.specs.Parts.{All}
+use Rattle.text.specs.Lists.{listText}
+use Rattle.text.specs.Parts.{All}
 use Rattle.ticket.specs.Words.{knowsLetter}
 
 -- G,cell,sure,possible or N,cell,low,high

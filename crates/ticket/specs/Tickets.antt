@@ -16,7 +16,7 @@ use Rattle.ticket.specs.declared.entry.Entry.{Entry}
 use Rattle.ticket.specs.declared.word.Dialect.{Dialect}
 use Rattle.ticket.specs.Entries.{Said, said}
 use Rattle.ticket.specs.Lines.{lineAt}
-use Rattle.ticket.specs.Parts.{partsOf, Lacks, All}
+use Rattle.text.specs.Parts.{partsOf, Lacks, All}
 
 -- an empty last part is no line
 abbrev pub lastLine : List ℕ → List (List ℕ)

@@ -3,7 +3,6 @@
 ghost use Prim.Native.Nat.{_≤_};
 ghost use Rattle.std.specs.Written.{decimal};
 ghost use Rattle.std.specs.declared.option.Option.the-variants.{Some};
-use super::list::PlaceList;
 use super::word::MemberWord;
 use super::word::PairWord;
 use super::word::TripleWord;
@@ -11,6 +10,7 @@ use bales::Place;
 use bales::Ranged;
 use bales::Weight;
 use std::fmt;
+use text::PlaceList;
 
 /// The number of a cell as tickets write it, 1 to 99.
 #[derive(Clone, Copy)]

@@ -1,11 +1,8 @@
-//! The text of a ticket: lines, fields, numbers, lists and rows, read and written.
+//! A ticket read: its lines, the fields of a line, and what each line says; rows both ways.
 
 pub mod entry;
 pub mod line;
 pub mod lines;
-pub mod list;
-pub mod numbers;
-pub mod parts;
 pub mod row;
 pub mod vocabulary;
 pub mod word;
@@ -18,7 +15,6 @@ pub use entry::Row;
 pub use entry::Statement;
 pub use lines::Reading;
 pub use lines::read_ticket;
-pub use list::PlaceList;
 pub use word::Dialect;
 pub use word::MemberWord;
 pub use word::PairWord;

@@ -10,13 +10,13 @@ ghost use Rattle.ticket.specs.Rounds.{Round-trips};
 ghost use Rattle.ticket.specs.Tickets.{linesOf, Splits, Reads, Refuses};
 use super::entry::Entry;
 use super::line::read_line;
-use super::parts::cut;
 use super::word::Dialect;
 use fault::Failure;
 use fault::FailureFromRefused;
 use fault::Fault;
 use fault::Refusal;
 use std::alloc::Global;
+use text::parts::cut;
 
 /// A ticket has at most this many bytes.
 const LARGEST: usize = 65536;

@@ -9,8 +9,8 @@ use super::entry::CellNumberDisplay;
 use super::entry::End;
 use super::entry::EndDisplay;
 use super::entry::Row;
-use super::list::show::PlaceListDisplay;
 use std::fmt;
+use text::list::show::PlaceListDisplay;
 
 /// `G,cell,sure,possible` or `N,cell,low,high`.
 pub impl fmt::Display for Row as RowDisplay {

@@ -1,7 +1,7 @@
 //! Letters and words read from a line.
 
 ghost use mathlib.Core.Path.{_≡_};
-ghost use Rattle.ticket.specs.Words.{nameOf, wordsOf, wordAt, letterOf, knowsLetter, letterAt, fieldCount};
+ghost use Rattle.ticket.specs.Words.{nameOf, wordsOf, wordAt, letterOf, knowsLetter, letterAt, fieldCount, named};
 use super::word::Dialect;
 use super::word::Letter;
 use super::word::MemberWord;
@@ -117,15 +117,24 @@ pub fn read_letter(dialect: Dialect, text: &[u8], line: u32) -> Result<Letter, F
     }
 }
 
+/// The word of that name among these.
+fn find_word(words: &[Word], text: &[u8]) -> Option<Word>
+    ensures { λ r. ⌜ r ≡ named (now (words .entry)) (now (text .entry)) ⌝ }
+{
+    for word in words {
+        if word.name() == text {
+            return Some(*word);
+        }
+    }
+    None
+}
+
 /// The word of a statement.
 pub fn read_word(dialect: Dialect, text: &[u8], line: u32) -> Result<Word, Fault>
     ensures { λ r. ⌜ r ≡ wordAt dialect line (now (text .entry)) ⌝ }
 {
-    let words = dialect.words();
-    for word in words {
-        if word.name() == text {
-            return Ok(*word);
-        }
+    match find_word(dialect.words(), text) {
+        Some(word) => Ok(word),
+        None => Err(Fault::new(Refusal::UnknownWord, line, 2)),
     }
-    Err(Fault::new(Refusal::UnknownWord, line, 2))
 }

@@ -13,10 +13,10 @@ use Rattle.std.specs.declared.result.Result.the-variants.{Ok}
 use Rattle.std.specs.Options.{mapped, Cases}
 use Rattle.std.specs.declared.option.Option.{Option}
 use Rattle.std.specs.declared.option.Option.the-variants.{Some, None}
-use Rattle.ticket.specs.Parts.{partsOf}
+use Rattle.text.specs.Parts.{partsOf}
 use Rattle.ticket.specs.declared.word.Dialect.{Dialect}
 use Rattle.ticket.specs.declared.word.Letter.{Letter}
-use Rattle.ticket.specs.Answers.{Gives}
+use Rattle.text.specs.Answers.{Gives}
 use Rattle.ticket.specs.Entries.{said}
 use Rattle.ticket.specs.Lines.{bodyAt, lineAt}
 use Rattle.ticket.specs.Words.{letterAt, fieldCount}

@@ -7,8 +7,8 @@ use Rattle.std.proofs.shelf.Lists.{nil-from-length}
 use Rattle.std.proofs.shelf.Results.{err-from-errBy}
 use Rattle.ticket.specs.Tickets.{told, linesOf, readings}
 use Rattle.ticket.specs.Rounds.{Round-trips}
-use Rattle.ticket.proofs.Digits.{numbers-round}
-use Rattle.ticket.proofs.Lists.{lists-round}
+use Rattle.text.proofs.Digits.{numbers-round}
+use Rattle.text.proofs.Lists.{lists-round}
 use Rattle.ticket.proofs.RowsBack.{rows-round}
 use Rattle.ticket.proofs.LineEnds.{splits, readings-more, told-is}
 use Rattle.ticket.proofs.lines.read_ticket.Needs as need

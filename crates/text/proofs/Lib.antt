@@ -1,0 +1,6 @@
+pub mod Cuts
+pub mod Digits
+mod Members
+mod Rising
+pub mod Lists
+mod Shown
