@@ -204,3 +204,45 @@ pub fn read_line(dialect: Dialect, text: &[u8], line: u32) -> Result<Entry, Faul
     }
     read_fields(dialect, text, line)
 }
+
+#[cfg(test)]
+mod tests {
+    use super::super::row::RowDisplay;
+    use super::*;
+    use fault::FaultDebug;
+    use fault::FaultPartialEq;
+    use std::test::*;
+
+    fn refusal(text: &[u8]) -> Option<Fault> {
+        match read_line(Dialect::Scale, text, 7) {
+            Ok(_) => None,
+            Err(fault) => Some(fault),
+        }
+    }
+
+    #[test]
+    fn a_scale_ticket_knows_numbers_alone() -> Result<(), Fail> {
+        check_eq(
+            refusal(b"G,1,-,-"),
+            Some(Fault::new(Refusal::UnknownLetter, 7, 1)),
+        )?;
+        check_eq(
+            refusal(b"S,sub,1,2,-"),
+            Some(Fault::new(Refusal::UnknownWord, 7, 2)),
+        )?;
+        check_eq(refusal(b"S,sum,1,2,3"), None)
+    }
+
+    #[test]
+    fn a_row_is_written_as_it_was_read(rt: LibcRuntime) -> Result<(), Fail> {
+        let text = b"G,2,1+3,1+3+12";
+        let Ok(entry) = read_line(Dialect::Match, text, 1) else {
+            return Err(Fail::new("refused"));
+        };
+        let Entry::Declare(row) = entry else {
+            return Err(Fail::new("no row"));
+        };
+        let written = format!(rt.alloc(), "{row}")?;
+        check(written.as_bytes() == text.as_slice())
+    }
+}
