@@ -1,1 +1,2 @@
+-- Lemmas, by subject.
 mod Counts

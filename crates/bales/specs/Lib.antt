@@ -1,2 +1,3 @@
+-- The bale list and its numbers.
 pub mod Ranges
 pub mod Lists

@@ -1,2 +1,3 @@
+-- Refusals, and how they are shown.
 pub mod Refusals
 pub mod Text

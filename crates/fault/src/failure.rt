@@ -1,7 +1,7 @@
 //! Why a whole piece of work fails: it is refused, or memory cannot be had.
 
 ghost use mathlib.Core.Path.{_≡_};
-ghost use Rattle.fault.specs.declared.failure.Failure.the-variants.{Refused as RefusedBy, NoMemory};
+ghost use Rattle.fault.specs.declared.failure.Failure.the-variants.{NoMemory};
 use super::Fault;
 use std::alloc::AllocError;
 use std::alloc::Refused as Unplaced;
@@ -12,14 +12,6 @@ use std::fmt;
 pub enum Failure {
     Refused(Fault),
     NoMemory,
-}
-
-pub impl From<Fault> for Failure as FailureFromFault {
-    ghost converts = { λ f r. r ≡ RefusedBy f };
-
-    fn from(fault: Fault) -> Failure {
-        Failure::Refused(fault)
-    }
 }
 
 pub impl From<AllocError> for Failure as FailureFromAlloc {

@@ -9,7 +9,6 @@ pub mod failure;
 
 pub use failure::Failure;
 pub use failure::FailureFromAlloc;
-pub use failure::FailureFromFault;
 pub use failure::FailureFromFmt;
 pub use failure::FailureFromRefused;
 use std::fmt;

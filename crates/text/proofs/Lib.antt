@@ -1,3 +1,4 @@
+-- Lemmas, by subject.
 pub mod Cuts
 pub mod Digits
 mod Members

@@ -1,3 +1,4 @@
+-- Parts, numbers and lists of places.
 pub mod Answers
 pub mod Numbers
 pub mod Parts

@@ -1,3 +1,4 @@
+-- Lemmas, by subject.
 mod Names
 mod LineEnds
 mod RowsBack

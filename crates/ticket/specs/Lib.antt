@@ -1,3 +1,4 @@
+-- Lines, entries and whole tickets.
 pub mod Words
 pub mod Entries
 pub mod Lines
