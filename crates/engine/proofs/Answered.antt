@@ -1,21 +1,13 @@
 -- Answers made of answers that may be nothing.
-use mathlib.Core.Path.{_≡_, refl, sym, ap, subst, _∙_}
-use mathlib.Core.List.{List, [], _∷_, map, _++_}
-use mathlib.Core.Logic.{_⊎_, inl, inr, ⊎-elim}
-use mathlib.Core.Bool.{Bool, true, false, _||_}
-use Prim.Native.Nat.{ℕ, zero, suc, _<_, _≤_}
-use native.Mathlib.Omega.{arith}
-use lib.Dec.{eqb}
-use lib.ListN.{length, getD, set}
-use borrow.Author.Tests.{eqb-true, eqb-false, eq-eqb}
+use mathlib.Core.Path.{_≡_, refl, sym}
+use mathlib.Core.List.{List, _∷_}
+use Prim.Native.Nat.{ℕ, zero, suc}
 use Rattle.std.specs.declared.option.Option.{Option}
 use Rattle.std.specs.declared.option.Option.the-variants.{Some, None}
-use Rattle.domain.specs.Laws.{Within, BoundsLaws, HeightLaws}
-use Rattle.domain.specs.Tells.{TellLaws}
-use Rattle.domain.proofs.Options.{none-some, some-is, answered}
-use Rattle.engine.specs.Rows.{item, Inside, Chosen, AllSingle, Single, Agree}
-use Rattle.engine.specs.Telling.{named, onward, putIn, toldCell, toldAt, toldAll}
-use Rattle.engine.proofs.Operands.{both, picked, fromOperands, rowNarrowed, ofValues, rowHolds, AllPass, OperandLaws, parts, ofParts, partTells, partHolds}
+use Rattle.domain.proofs.Options.{none-some, some-is}
+use Rattle.engine.specs.Rows.{item}
+use Rattle.engine.specs.Telling.{onward, putIn, toldCell, toldAt}
+use Rattle.engine.proofs.Operands.{both}
 
 pub onward-some : {X Y : Type 0} (o : Option X) (f : X → Option Y) (y : Y) → onward o f ≡ Some y → (x : X) × (o ≡ Some x) × (f x ≡ Some y)
 onward-some None f y e = absurd (none-some e)

@@ -1,7 +1,6 @@
 -- One cell of a row told after another.
 use mathlib.Core.Path.{_≡_, refl, sym, ap, subst, _∙_}
 use mathlib.Core.List.{List, [], _∷_}
-use mathlib.Core.Logic.{⊎-elim}
 use mathlib.Core.Bool.{Bool}
 use Prim.Native.Nat.{ℕ}
 use lib.ListN.{set}
@@ -9,7 +8,7 @@ use Rattle.std.specs.declared.option.Option.{Option}
 use Rattle.std.specs.declared.option.Option.the-variants.{Some, None}
 use Rattle.domain.specs.Laws.{BoundsLaws}
 use Rattle.domain.specs.Tells.{TellLaws}
-use Rattle.domain.proofs.Options.{none-some, some-is, answered}
+use Rattle.domain.proofs.Options.{none-some, some-is}
 use Rattle.engine.specs.Rows.{item, Inside}
 use Rattle.engine.specs.Fires.{Fires, bothFired, restored, afterBoth}
 use Rattle.engine.specs.declared.fired.Fired.{Fired}

@@ -2,14 +2,14 @@
 use mathlib.Core.Path.{_≡_, refl, sym, ap, subst, _∙_}
 use mathlib.Core.List.{List, [], _∷_, _++_}
 use mathlib.Core.Bool.{Bool, true, false, _||_}
-use Prim.Native.Nat.{ℕ, zero, suc, _+_, _<_, _≤_}
+use Prim.Native.Nat.{ℕ, zero, suc, _+_, _<_}
 use native.Mathlib.Omega.{arith}
 use lib.Dec.{eqb}
 use lib.ListN.{length, getD, drop}
 use borrow.Author.Tests.{eqb-true}
 use Rattle.std.specs.declared.option.Option.{Option}
 use Rattle.std.specs.declared.option.Option.the-variants.{Some, None}
-use Rattle.std.proofs.shelf.Lists.{at-drop-more, at-drop-all}
+use Rattle.std.proofs.shelf.Lists.{at-drop-more}
 use Rattle.domain.specs.Laws.{Within}
 use Rattle.domain.proofs.Options.{none-some, some-is}
 use Rattle.engine.specs.declared.field.Field.{Field}
@@ -19,7 +19,7 @@ use Rattle.engine.specs.declared.field.Reason.the-variants.{OutOfRange, NotDec
 use Rattle.engine.specs.Rows.{item, Inside, Agree}
 use Rattle.engine.specs.Laws.{NarrowingLaws}
 use Rattle.engine.specs.Telling.{named}
-use Rattle.engine.specs.Fits.{stands, unless, firstAtFault, firstMisfit, Fits, FitLaws, cellFieldOf, cellField, cellFields, cellsNamed}
+use Rattle.engine.specs.Fits.{stands, unless, firstAtFault, firstMisfit, Fits, FitLaws, cellFieldOf, cellFields, cellsNamed}
 use Rattle.engine.proofs.Rows.{items-same, item-append, item-within}
 
 -- ---- which field is first

@@ -1,5 +1,5 @@
 -- WHAT A PROPAGATOR OWES: from its laws on operands follow its laws on rows, for one, two and three operands.
-use mathlib.Core.Path.{_≡_, refl, sym, subst}
+use mathlib.Core.Path.{_≡_, refl, subst}
 use mathlib.Core.List.{List, [], _∷_}
 use mathlib.Core.Bool.{Bool}
 use Prim.Native.Nat.{ℕ}
@@ -10,9 +10,9 @@ use Rattle.domain.specs.Tells.{TellLaws}
 use Rattle.engine.specs.Rows.{item}
 use Rattle.engine.specs.Laws.{NarrowingLaws, RelationLaws}
 use Rattle.engine.specs.Telling.{named, onward, toldAll}
-use Rattle.engine.specs.Parts.{PartLaws, operand}
+use Rattle.engine.specs.Parts.{PartLaws}
 use Rattle.engine.specs.Arity.{oneTold, oneNarrowed, holdsOne, oneHolds, OneLaws, allTwo, twoTold, twoNarrowed, holdsTwo, twoHold, TwoLaws, allThree, threeTold, threeNarrowed, holdsThree, threeHold, ThreeLaws}
-use Rattle.engine.proofs.Operands.{both, fromOperands, rowNarrowed, ofValues, rowHolds, OperandLaws, parts, ofParts, partTells, partHolds, toldOne, oneTells, toldTwo, twoTells, threeTells, heldOne, oneHeld, heldTwo, twoHeld, threeHeld}
+use Rattle.engine.proofs.Operands.{both, fromOperands, rowNarrowed, ofValues, rowHolds, OperandLaws, ofParts, partTells, partHolds, toldOne, oneTells, toldTwo, twoTells, threeTells, heldOne, oneHeld, heldTwo, twoHeld, threeHeld}
 use Rattle.engine.proofs.Lifting.{narrowing-lifted, relation-lifted}
 use Rattle.engine.proofs.Parts.{part-word}
 use Rattle.engine.proofs.Arity.{one-word, two-word, three-word}

@@ -1,27 +1,22 @@
 -- The laws of operands give the laws of the propagator on rows.
-use mathlib.Core.Path.{_≡_, refl, sym, ap, subst, _∙_}
-use mathlib.Core.List.{List, [], _∷_, map, _++_}
-use mathlib.Core.Logic.{_⊎_, inl, inr, ⊎-elim}
-use mathlib.Core.Bool.{Bool, true, false, _||_}
-use Prim.Native.Nat.{ℕ, zero, suc, _<_, _≤_}
-use native.Mathlib.Omega.{arith}
-use lib.Dec.{eqb}
-use lib.ListN.{length, getD, set}
-use borrow.Author.Tests.{eqb-true, eqb-false, eq-eqb}
+use mathlib.Core.Path.{_≡_, sym, ap, subst, _∙_}
+use mathlib.Core.List.{List, map}
+use mathlib.Core.Logic.{_⊎_, ⊎-elim}
+use mathlib.Core.Bool.{Bool}
+use Prim.Native.Nat.{ℕ}
 use Rattle.std.specs.declared.option.Option.{Option}
 use Rattle.std.specs.declared.option.Option.the-variants.{Some, None}
-use Rattle.domain.specs.Laws.{Within, BoundsLaws, HeightLaws}
+use Rattle.domain.specs.Laws.{BoundsLaws, HeightLaws}
 use Rattle.domain.specs.Tells.{TellLaws}
 use Rattle.domain.proofs.Options.{none-some, some-is, answered}
-use Rattle.engine.specs.Rows.{item, Inside, Chosen, AllSingle, Single, Agree}
-use Rattle.engine.specs.Telling.{named, onward, putIn, toldCell, toldAt, toldAll}
-use Rattle.engine.proofs.Operands.{both, picked, fromOperands, rowNarrowed, ofValues, rowHolds, AllPass, OperandLaws, parts, ofParts, partTells, partHolds}
+use Rattle.engine.specs.Rows.{Inside, Chosen, Single}
+use Rattle.engine.specs.Telling.{named}
+use Rattle.engine.proofs.Operands.{picked, rowNarrowed, rowHolds, AllPass, OperandLaws}
 use Rattle.engine.specs.Laws.{NarrowingLaws, RelationLaws}
-use Rattle.engine.proofs.Answered.{onward-some, both-some, headed-some, headed-none, tailed-some, tailed-none}
-use Rattle.engine.proofs.Rows.{inside-self, inside-chosen, sample-chosen, chosen-inside, rows-same, singles-one}
-use Rattle.engine.proofs.Picking.{item-chosen, item-past, picked-chosen, picked-past, picked-inside, picked-singles, picked-same, here-named, also-named, not-named}
+use Rattle.engine.proofs.Rows.{inside-chosen, sample-chosen, chosen-inside, rows-same, singles-one}
+use Rattle.engine.proofs.Picking.{picked-chosen, picked-past, picked-inside, picked-singles}
 use Rattle.engine.proofs.Naming.{touches-named, reads-named}
-use Rattle.engine.proofs.Passing.{PassesAt, RowPasses, row-pass, pass-row, at-only, all-only, all-each, all-none}
+use Rattle.engine.proofs.Passing.{row-pass, pass-row, all-only, all-each, all-none}
 
 module _ {C V K : Type 0} {allows : C → V → Type 0} {inside : C → C → Bool} {sample : C → V} {height : C → ℕ} {passes : K → V → Type 0} {meet : K → C → Option C} {tells : List C → List K} {holds : List V → Type 0}
     (bounds : BoundsLaws allows sample inside) (heights : HeightLaws allows height) (told : TellLaws allows passes meet) (operands : OperandLaws allows height passes tells holds) (names : List ℕ) where
@@ -128,3 +123,8 @@ module _ {C V K : Type 0} {allows : C → V → Type 0} {inside : C → C → Bo
     stays = stays;
     exact = exact;
   }
+
+-- where its own cells are single and the relation does not hold, it contradicts
+pub contradicts : {C V : Type 0} {allows : C → V → Type 0} {height : C → ℕ} {names : ℕ → Bool} {holds : List V → Type 0} {step : List C → Option (List C)} →
+    RelationLaws allows height names holds step → (P : List C) (vs : List V) → Chosen allows P vs → Single height names P → (holds vs → ⊥) → step P ≡ None
+contradicts {C} {step = step} laws P vs c s n = ⊎-elim (λ e. e) (λ (t : (X : List C) × (step P ≡ Some X)). absurd (n (laws .exact P (t .0) vs c s (t .1)))) (answered (step P))

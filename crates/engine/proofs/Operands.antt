@@ -1,5 +1,4 @@
 -- Propagators on lists of operands, and the rows that they make of rows: what is shown for operands is lifted to rows through these.
-use mathlib.Core.Path.{_≡_}
 use mathlib.Core.List.{List, [], _∷_, map}
 use Prim.Native.Nat.{ℕ}
 use Rattle.std.specs.declared.option.Option.{Option}

@@ -1,21 +1,14 @@
 -- Propagators on one kind of cell, in rows of several kinds.
-use mathlib.Core.Path.{_≡_, refl, sym, ap, subst, _∙_}
-use mathlib.Core.List.{List, [], _∷_, map, _++_}
-use mathlib.Core.Logic.{_⊎_, inl, inr, ⊎-elim}
-use mathlib.Core.Bool.{Bool, true, false, _||_}
-use Prim.Native.Nat.{ℕ, zero, suc, _<_, _≤_}
-use native.Mathlib.Omega.{arith}
-use lib.Dec.{eqb}
-use lib.ListN.{length, getD, set}
-use borrow.Author.Tests.{eqb-true, eqb-false, eq-eqb}
+use mathlib.Core.Path.{_≡_, refl, sym, subst, _∙_}
+use mathlib.Core.List.{List, [], _∷_, map}
+use mathlib.Core.Logic.{_⊎_, ⊎-elim}
+use Prim.Native.Nat.{ℕ}
 use Rattle.std.specs.declared.option.Option.{Option}
 use Rattle.std.specs.declared.option.Option.the-variants.{Some, None}
-use Rattle.domain.specs.Laws.{Within, BoundsLaws, HeightLaws}
-use Rattle.domain.specs.Tells.{TellLaws}
+use Rattle.domain.specs.Laws.{Within}
 use Rattle.domain.proofs.Options.{none-some, some-is, answered}
-use Rattle.engine.specs.Rows.{item, Inside, Chosen, AllSingle, Single, Agree}
-use Rattle.engine.specs.Telling.{named, onward, putIn, toldCell, toldAt, toldAll}
-use Rattle.engine.proofs.Operands.{both, picked, fromOperands, rowNarrowed, ofValues, rowHolds, AllPass, OperandLaws, parts, ofParts, partTells, partHolds}
+use Rattle.engine.specs.Rows.{Inside, Chosen, AllSingle}
+use Rattle.engine.proofs.Operands.{AllPass, OperandLaws, parts, partTells, partHolds}
 use Rattle.engine.specs.Parts.{PartLaws}
 use Rattle.engine.proofs.Answered.{both-some}
 use Rattle.engine.proofs.Rows.{inside-chosen}
@@ -86,9 +79,9 @@ module _ {C V K X U J : Type 0} {allows : C → V → Type 0} {height : C → �
       let t = both-some (kin v) (parts kin vs) us e in
       subst (AllPass passes′ (j ∷ js)) (sym (t .4)) (laws .passed j v (t .0) (t .2) (h .0), map-pass js vs (t .1) (t .3) (h .1))
 
-  -- THE LIFTING: a word on one sort of cell is a word on cells of several sorts
+  -- what is shown for operands of one kind holds in rows of several kinds
   pub part-word : {tells : List X → List J} {holds : List U → Type 0} → OperandLaws allows′ height′ passes′ tells holds → OperandLaws allows height passes (partTells part tell tells) (partHolds kin holds)
-  part-word {tells} {holds} word = record {
+  part-word {tells} {holds} operands = record {
     monotone = λ ps qs vs a c h.
         ⊎-elim (λ n. rw n tt)
         (λ (t : (ys : List X) × (parts part qs ≡ Some ys)).
@@ -99,7 +92,7 @@ module _ {C V K X U J : Type 0} {allows : C → V → Type 0} {height : C → �
         let es = s .1 in
         let d = parts-chosen ps vs (s .0) c es in
         let same : d .0 ≡ b .0 = some-is (sym (d .1) ∙ b .1) in
-        rw et (pass-map (tells (t .0)) vs (b .0) (b .1) (word .monotone (s .0) (t .0) (b .0) (parts-inside ps qs (s .0) (t .0) a es et) (subst (Chosen allows′ (s .0)) same (d .2))
+        rw et (pass-map (tells (t .0)) vs (b .0) (b .1) (operands .monotone (s .0) (t .0) (b .0) (parts-inside ps qs (s .0) (t .0) a es et) (subst (Chosen allows′ (s .0)) same (d .2))
         (map-pass (tells (s .0)) vs (b .0) (b .1) (rw es at h)))))
         (answered (parts part ps)))
         (answered (parts part qs));
@@ -109,7 +102,7 @@ module _ {C V K X U J : Type 0} {allows : C → V → Type 0} {height : C → �
         let es = s .1 in
         let d = parts-chosen ps vs (s .0) c es in
         let ed = d .1 in
-        rw es (pass-map (tells (s .0)) vs (d .0) ed (word .keeps (s .0) (d .0) (d .2) (rw ed at m))))
+        rw es (pass-map (tells (s .0)) vs (d .0) ed (operands .keeps (s .0) (d .0) (d .2) (rw ed at m))))
         (answered (parts part ps));
     exact = λ ps vs c o h.
         ⊎-elim (λ n. let m = parts-past ps vs c n in rw m tt)
@@ -117,6 +110,6 @@ module _ {C V K X U J : Type 0} {allows : C → V → Type 0} {height : C → �
         let es = s .1 in
         let d = parts-chosen ps vs (s .0) c es in
         let ed = d .1 in
-        rw ed (word .exact (s .0) (d .0) (d .2) (parts-singles ps (s .0) o es) (map-pass (tells (s .0)) vs (d .0) ed (rw es at h))))
+        rw ed (operands .exact (s .0) (d .0) (d .2) (parts-singles ps (s .0) o es) (map-pass (tells (s .0)) vs (d .0) ed (rw es at h))))
         (answered (parts part ps));
   }

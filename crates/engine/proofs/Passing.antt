@@ -1,23 +1,19 @@
 -- Rows that are told something: their choices are those of the old row that pass.
-use mathlib.Core.Path.{_≡_, refl, sym, ap, subst, _∙_}
-use mathlib.Core.List.{List, [], _∷_, map, _++_}
-use mathlib.Core.Logic.{_⊎_, inl, inr, ⊎-elim}
-use mathlib.Core.Bool.{Bool, true, false, _||_}
-use Prim.Native.Nat.{ℕ, zero, suc, _<_, _≤_}
-use native.Mathlib.Omega.{arith}
-use lib.Dec.{eqb}
-use lib.ListN.{length, getD, set}
-use borrow.Author.Tests.{eqb-true, eqb-false, eq-eqb}
+use mathlib.Core.Path.{_≡_, sym, ap, subst, _∙_}
+use mathlib.Core.List.{List, [], _∷_, map}
+use mathlib.Core.Logic.{_⊎_, ⊎-elim}
+use mathlib.Core.Bool.{Bool}
+use Prim.Native.Nat.{ℕ, zero, suc}
 use Rattle.std.specs.declared.option.Option.{Option}
 use Rattle.std.specs.declared.option.Option.the-variants.{Some, None}
-use Rattle.domain.specs.Laws.{Within, BoundsLaws, HeightLaws}
+use Rattle.domain.specs.Laws.{BoundsLaws}
 use Rattle.domain.specs.Tells.{TellLaws}
 use Rattle.domain.proofs.Options.{none-some, some-is, answered}
-use Rattle.engine.specs.Rows.{item, Inside, Chosen, AllSingle, Single, Agree}
-use Rattle.engine.specs.Telling.{named, onward, putIn, toldCell, toldAt, toldAll}
-use Rattle.engine.proofs.Operands.{both, picked, fromOperands, rowNarrowed, ofValues, rowHolds, AllPass, OperandLaws, parts, ofParts, partTells, partHolds}
+use Rattle.engine.specs.Rows.{item, Chosen}
+use Rattle.engine.specs.Telling.{toldAt, toldAll}
+use Rattle.engine.proofs.Operands.{picked, AllPass}
 use Rattle.engine.proofs.Answered.{head-told, tail-told, onward-some, both-some, headed-some, headed-none, tailed-some, tailed-none}
-use Rattle.engine.proofs.Rows.{inside-self, inside-chosen, sample-chosen, chosen-inside, rows-same, singles-one}
+use Rattle.engine.proofs.Rows.{sample-chosen, chosen-inside, rows-same}
 
 -- the value at place i passes k
 abbrev pub PassesAt : {K V : Type 0} → (K → V → Type 0) → List V → ℕ → K → Type 0

@@ -1,21 +1,18 @@
 -- Operands picked from a row.
-use mathlib.Core.Path.{_≡_, refl, sym, ap, subst, _∙_}
-use mathlib.Core.List.{List, [], _∷_, map, _++_}
-use mathlib.Core.Logic.{_⊎_, inl, inr, ⊎-elim}
-use mathlib.Core.Bool.{Bool, true, false, _||_}
-use Prim.Native.Nat.{ℕ, zero, suc, _<_, _≤_}
+use mathlib.Core.Path.{_≡_, refl, sym, subst}
+use mathlib.Core.List.{List, [], _∷_}
+use mathlib.Core.Logic.{_⊎_, ⊎-elim}
+use mathlib.Core.Bool.{true, false, _||_}
+use Prim.Native.Nat.{ℕ, zero, suc}
 use native.Mathlib.Omega.{arith}
 use lib.Dec.{eqb}
-use lib.ListN.{length, getD, set}
-use borrow.Author.Tests.{eqb-true, eqb-false, eq-eqb}
-use Rattle.std.specs.declared.option.Option.{Option}
+use borrow.Author.Tests.{eqb-false, eq-eqb}
 use Rattle.std.specs.declared.option.Option.the-variants.{Some, None}
-use Rattle.domain.specs.Laws.{Within, BoundsLaws, HeightLaws}
-use Rattle.domain.specs.Tells.{TellLaws}
+use Rattle.domain.specs.Laws.{Within}
 use Rattle.domain.proofs.Options.{none-some, some-is, answered}
 use Rattle.engine.specs.Rows.{item, Inside, Chosen, AllSingle, Single, Agree}
-use Rattle.engine.specs.Telling.{named, onward, putIn, toldCell, toldAt, toldAll}
-use Rattle.engine.proofs.Operands.{both, picked, fromOperands, rowNarrowed, ofValues, rowHolds, AllPass, OperandLaws, parts, ofParts, partTells, partHolds}
+use Rattle.engine.specs.Telling.{named}
+use Rattle.engine.proofs.Operands.{both, picked}
 use Rattle.engine.proofs.Answered.{both-some}
 
 module _ {C V : Type 0} (allows : C → V → Type 0) where

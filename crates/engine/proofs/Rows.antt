@@ -1,19 +1,14 @@
 -- Rows inside others, and their choices.
-use mathlib.Core.Path.{_≡_, refl, sym, ap, subst, _∙_}
+use mathlib.Core.Path.{_≡_, refl, sym, ap}
 use mathlib.Core.List.{List, [], _∷_, map, _++_}
-use mathlib.Core.Logic.{_⊎_, inl, inr, ⊎-elim}
-use mathlib.Core.Bool.{Bool, true, false, _||_}
+use mathlib.Core.Bool.{Bool}
 use Prim.Native.Nat.{ℕ, zero, suc, _<_, _≤_}
 use native.Mathlib.Omega.{arith}
-use lib.Dec.{eqb}
 use lib.ListN.{length, getD, set}
-use borrow.Author.Tests.{eqb-true, eqb-false, eq-eqb}
-use Rattle.std.specs.declared.option.Option.{Option}
 use Rattle.std.specs.declared.option.Option.the-variants.{Some, None}
-use Rattle.domain.specs.Laws.{Within, BoundsLaws, HeightLaws}
-use Rattle.domain.specs.Tells.{TellLaws}
-use Rattle.domain.proofs.Options.{none-some, some-is, answered}
-use Rattle.engine.specs.Rows.{item, Inside, Chosen, AllSingle, Single, Agree}
+use Rattle.domain.specs.Laws.{BoundsLaws, HeightLaws}
+use Rattle.domain.proofs.Options.{none-some, some-is}
+use Rattle.engine.specs.Rows.{item, Inside, Chosen, AllSingle}
 
 module _ {C V : Type 0} (allows : C → V → Type 0) where
   pub inside-self : (P : List C) → Inside allows P P

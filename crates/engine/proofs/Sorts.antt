@@ -1,5 +1,6 @@
 -- How each kind sits in a mixed cell, and how a kind sits in itself.
-use mathlib.Core.Path.{_≡_, refl, sym, subst}
+use mathlib.Core.Path.{_≡_, refl, sym, subst, _∙_}
+use mathlib.Core.Bool.{Bool, true}
 use Prim.Native.Nat.{ℕ}
 use Rattle.std.specs.declared.option.Option.{Option}
 use Rattle.std.specs.declared.option.Option.the-variants.{Some, None}
@@ -8,8 +9,9 @@ use Rattle.domain.specs.declared.mixed.Mixed.the-variants.{First, Second}
 use Rattle.domain.specs.declared.mixed.Either.{Either}
 use Rattle.domain.specs.declared.mixed.Either.the-variants.{Left, Right}
 use Rattle.domain.specs.Mixes.{mixAllows, mixHeight, mixPasses}
+use Rattle.domain.specs.Laws.{Within, BoundsLaws}
 use Rattle.domain.proofs.Options.{none-some, some-is}
-use Rattle.engine.specs.Parts.{PartLaws, firstOf, secondOf, leftOf, rightOf}
+use Rattle.engine.specs.Parts.{PartLaws, isSome, ofKind, firstOf, secondOf, leftOf, rightOf}
 
 module _ {A U J B V K : Type 0} (allows : A → U → Type 0) (height : A → ℕ) (passes : J → U → Type 0) (allows′ : B → V → Type 0) (height′ : B → ℕ) (passes′ : K → V → Type 0) where
   first-some : (p : Mixed A B) (x : A) (v : Either U V) → firstOf p ≡ Some x → mixAllows allows allows′ p v → (u : U) × (leftOf v ≡ Some u) × allows x u
@@ -81,3 +83,17 @@ whole-part allows height passes = record {
   pass = λ j v u e h. subst (passes j) (sym (some-is e)) h;
   passed = λ j v u e h. subst (passes j) (some-is e) h;
 }
+
+-- what lies within a cell of a kind is of that kind
+module _ {C V K X U J : Type 0} {allows : C → V → Type 0} {inside : C → C → Bool} {sample : C → V} {height : C → ℕ} {passes : K → V → Type 0}
+    {allows′ : X → U → Type 0} {height′ : X → ℕ} {passes′ : J → U → Type 0} {part : C → Option X} {kin : V → Option U} {value : U → V} {tell : J → K}
+    (bounds : BoundsLaws allows sample inside) (kind : PartLaws allows height passes allows′ height′ passes′ part kin value tell) where
+  still-of-kind : (p q : C) → Within allows q p → (o o′ : Option X) → part p ≡ o → part q ≡ o′ → isSome o ≡ true → isSome o′ ≡ true
+  still-of-kind p q w o (Some y) e f h = refl
+  still-of-kind p q w None None e f h = h
+  still-of-kind p q w (Some x) None e f h =
+      let a = bounds .some q in
+      absurd (none-some (sym (kind .none q (sample q) f a) ∙ kind .some p x (sample q) e (w (sample q) a) .1))
+
+  pub kind-lasts : (p q : C) → Within allows q p → ofKind part p ≡ true → ofKind part q ≡ true
+  kind-lasts p q w h = still-of-kind p q w (part p) (part q) refl refl h

@@ -44,6 +44,7 @@ abbrev pub twoTold : {C X Y J K L : Type 0} → (L → C → Option C) → (J �
 twoTold meet tell tell′ f a b P None = Some P
 twoTold meet tell tell′ f a b P (Some t) = toldAll meet (a ∷ (b ∷ [])) (tell (f (t .0) (t .1) .0) ∷ (tell′ (f (t .0) (t .1) .1) ∷ [])) P
 
+-- as for one operand: where one of them is not there, the row stays as it was
 abbrev pub twoNarrowed : {C X Y J K L : Type 0} → (L → C → Option C) → (C → Option X) → (C → Option Y) → (J → L) → (K → L) → (X → Y → J × K) → ℕ → ℕ → List C → Option (List C)
 twoNarrowed meet part part′ tell tell′ f a b P = twoTold meet tell tell′ f a b P (allTwo (operand part P a) (operand part′ P b))
 
@@ -77,6 +78,7 @@ threeTold meet tell f a b c P None = Some P
 threeTold meet tell f a b c P (Some t) =
     toldAll meet (a ∷ (b ∷ (c ∷ []))) (tell (f (t .0) (t .1) (t .2) .0) ∷ (tell (f (t .0) (t .1) (t .2) .1) ∷ (tell (f (t .0) (t .1) (t .2) .2) ∷ []))) P
 
+-- as for one operand
 abbrev pub threeNarrowed : {C X J K : Type 0} → (K → C → Option C) → (C → Option X) → (J → K) → (X → X → X → J × J × J) → ℕ → ℕ → ℕ → List C → Option (List C)
 threeNarrowed meet part tell f a b c P = threeTold meet tell f a b c P (allThree (operand part P a) (operand part P b) (operand part P c))
 

@@ -1,6 +1,7 @@
 -- Operands of one kind in rows of several kinds.
 use mathlib.Core.Path.{_≡_}
 use mathlib.Core.List.{List}
+use mathlib.Core.Bool.{Bool, true, false}
 use Prim.Native.Nat.{ℕ}
 use Rattle.std.specs.declared.option.Option.{Option}
 use Rattle.std.specs.declared.option.Option.the-variants.{Some, None}
@@ -14,6 +15,14 @@ use Rattle.engine.specs.Telling.{onward}
 -- what stands at place i, as of its kind; nothing where it is of another kind, or past the end
 abbrev pub operand : {C X : Type 0} → (C → Option X) → List C → ℕ → Option X
 operand part P i = onward (item P i) part
+
+abbrev pub isSome : {X : Type 0} → Option X → Bool
+isSome None = false
+isSome (Some x) = true
+
+-- is the cell of the kind?
+abbrev pub ofKind : {C X : Type 0} → (C → Option X) → C → Bool
+ofKind part p = isSome (part p)
 
 -- How a kind of cell sits in another: `part` takes it out of a cell and `kin` its sort out of a value, `value` and `tell` put values and what is
 -- told back in.

@@ -1,4 +1,5 @@
 -- What is left of a row whose cells are told something.
+use mathlib.Core.Path.{_≡_}
 use mathlib.Core.List.{List, [], _∷_}
 use mathlib.Core.Bool.{Bool, false, _||_}
 use Prim.Native.Nat.{ℕ}
@@ -35,3 +36,8 @@ abbrev pub toldAll : {C K : Type 0} → (K → C → Option C) → List ℕ → 
 toldAll meet [] ts P = Some P
 toldAll meet (i ∷ is) [] P = Some P
 toldAll meet (i ∷ is) (t ∷ ts) P = onward (toldAt meet P i t) (toldAll meet is ts)
+
+-- What cells are told one after another they are told together: it does not matter which comes first, of one cell or of several.
+pub record TogetherLaws {C K : Type 0} (meet : K → C → Option C) : Type 0 where
+  pub swapped : (i j : ℕ) (s t : K) (is : List ℕ) (ts : List K) (P : List C) → toldAll meet (i ∷ (j ∷ is)) (s ∷ (t ∷ ts)) P ≡ toldAll meet (j ∷ (i ∷ is)) (t ∷ (s ∷ ts)) P
+  pub again : (i : ℕ) (t : K) (is : List ℕ) (ts : List K) (P : List C) → toldAll meet (i ∷ (i ∷ is)) (t ∷ (t ∷ ts)) P ≡ toldAll meet (i ∷ is) (t ∷ ts) P

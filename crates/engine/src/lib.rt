@@ -15,3 +15,4 @@ pub use telling::cell_at;
 pub use telling::tell_one;
 pub use telling::tell_three;
 pub use telling::tell_two;
+pub use telling::told_together;

@@ -5,7 +5,7 @@ ghost use Prim.Native.Nat.{_<_, _≤_};
 ghost use lib.ListN.{length, set};
 ghost use Rattle.std.specs.declared.option.Option.the-variants.{Some};
 ghost use Rattle.engine.specs.Rows.{item};
-ghost use Rattle.engine.specs.Telling.{toldAll};
+ghost use Rattle.engine.specs.Telling.{toldAll, TogetherLaws};
 ghost use Rattle.engine.specs.Fires.{Fires, bothFired, restored, afterBoth};
 use super::fired::Fired;
 use domain::Domain;
@@ -135,3 +135,9 @@ pub fn tell_three<D: Domain>(
         }
     }
 }
+
+/// Of every kind of cell: it does not matter in which order cells are told what is for them, and telling a cell the same twice is telling
+/// it once.
+pub fn told_together<D: Domain>()
+    ensures { λ _. ⌜ TogetherLaws (D·Domain .meet) ⌝ }
+{}

@@ -1,10 +1,7 @@
 -- The same bounds make the same row, and others another.
-use mathlib.Core.Path.{_≡_, refl, sym, ap, _∙_, subst}
+use mathlib.Core.Path.{refl}
 use native.Mathlib.Omega.{arith}
-use lib.Dec.{T}
-use lib.ListN.{set}
-use Rattle.std.specs.declared.option.Option.the-variants.{Some}
-use Rattle.engine.proofs.Rows.{set-same, item-within}
+use Rattle.engine.proofs.Rows.{item-within}
 use Rattle.engine.proofs.Firing.{set-other, set-is}
 use Rattle.engine.proofs.telling.replace.Needs as need
 
