@@ -1,4 +1,5 @@
 //! The listings of many tickets, one after another, to be compared with what they should be.
+#![tactic(auto)]
 
 use anyhow::anyhow;
 use std::io::Write;

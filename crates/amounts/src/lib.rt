@@ -1,4 +1,6 @@
 //! The words with numbers, each a propagator: count, weigh, sum and most.
+#![tactic(auto)]
+
 pub mod numbers;
 pub mod numeric;
 pub mod scales;

@@ -1,4 +1,5 @@
 //! balematch: reads a ticket from standard input and writes its listing.
+#![tactic(auto)]
 
 use anyhow::anyhow;
 use std::io::{Read, Write};

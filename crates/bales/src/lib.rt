@@ -1,4 +1,5 @@
 //! The bale list of one ticket: it takes bales in turn, and is then closed for good.
+#![tactic(auto)]
 
 pub mod bale;
 pub mod list;

@@ -1,4 +1,6 @@
 //! Kinds of cell: bounds on a value, how they are narrowed by what they are told, and how they are split in two.
+#![tactic(auto)]
+
 pub mod bounds;
 pub mod group;
 pub mod kind;

@@ -1,4 +1,6 @@
 //! Propagators over rows of cells: their laws, and what each tells the cells that it names.
+#![tactic(auto)]
+
 pub mod field;
 pub mod fired;
 pub mod misfit;

@@ -1,4 +1,5 @@
 //! A refusal: its number, the line and field it was found at, and the layer that found it.
+#![tactic(auto)]
 
 ghost use Rattle.std.specs.Prelude.{◌≡◌, Some};
 ghost use Rattle.fault.specs.Text.{layer_text, fault_text};

@@ -1,4 +1,6 @@
 //! Histories of calls to a sheet: what each call may answer, and what is promised of them all.
+#![tactic(auto)]
+
 ghost use Rattle.history.specs.Promise.{Promised};
 
 use domain::{Domain, Halves};

@@ -1,4 +1,6 @@
 //! What resting bounds, whole matches and a search mean, and what follows from the laws for every kind of cell and every propagator.
+#![tactic(auto)]
+
 ghost use Rattle.meaning.specs.Theorems.{RestingTheorems, SearchTheorems};
 
 use domain::{Domain, Halves};

@@ -1,4 +1,6 @@
 //! Sets of up to 64 places, each a machine word, and what their places weigh.
+#![tactic(auto)]
+
 pub mod scales;
 pub mod set;
 

@@ -1,4 +1,6 @@
 //! A list of calls, played on a new sheet: what is promised of histories stands in its contract.
+#![tactic(auto)]
+
 pub mod answer;
 pub mod playing;
 pub mod serving;

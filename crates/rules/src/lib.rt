@@ -1,4 +1,6 @@
 //! The propagators of a sheet, in the order in which they were stated.
+#![tactic(auto)]
+
 ghost use Rattle.std.specs.Prelude.{◌≤◌, vec_len, vec_capacity};
 
 pub mod listing;

@@ -1,4 +1,6 @@
 //! The sheet, for every kind of cell and every propagator: declare, state, ask and settle.
+#![tactic(auto)]
+
 pub mod calls;
 pub mod checks;
 pub mod settling;

@@ -1,4 +1,6 @@
 //! The fixpoint of propagators over rows of cells, and the search over the caller's stack.
+#![tactic(auto)]
+
 pub mod fixpoint;
 mod node;
 pub mod search;

@@ -1,4 +1,5 @@
 //! A ticket read: its lines, the fields of a line, and what each line says; rows both ways.
+#![tactic(auto)]
 
 pub mod entry;
 pub mod line;

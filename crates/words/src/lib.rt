@@ -1,4 +1,6 @@
 //! The words of the match sheet that speak of groups of bales, each a propagator.
+#![tactic(auto)]
+
 pub mod cell;
 pub mod members;
 pub mod pairs;
