@@ -14,15 +14,15 @@ loop-rest-init c = (zero-add _, omega (arith, ones-le 64 c.args.set (omega arith
 pub bounds-weights-rest : goal.bounds-weights-rest
 bounds-weights-rest c = trailing_lt 64 c.loop-rest.rest (omega arith) (omega arith)
 
-module _ (c : goal.After-sum·1) where
+module _ (c : goal.After-sum-1) where
   here : get_or c.args.weights.now (count_trailing_zeros 64 c.loop-rest.rest) 0 ≤ 65535
   here = search rules
 
   counted : 1 + ones (bit_and c.loop-rest.rest (c.loop-rest.rest - 1)) ≡ ones c.loop-rest.rest
   counted = ones-clear 64 c.loop-rest.rest (omega arith) (omega arith)
 
-pub overflow-add-sum : goal.overflow-add-sum
-overflow-add-sum c = let h = here c in let o = counted c in omega arith
+pub overflow_add-sum : goal.overflow_add-sum
+overflow_add-sum c = let h = here c in let o = counted c in omega arith
 
 pub loop-rest-preserved : goal.loop-rest-preserved
 loop-rest-preserved c = (

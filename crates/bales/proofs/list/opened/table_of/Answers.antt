@@ -9,7 +9,7 @@ loop-i-init c = refl
 
 pub loop-i-preserved : goal.loop-i-preserved
 loop-i-preserved c =
-    c.put-weight.ensures
+    c.put_weight.ensures
     ∙ ap₂ (λ t w. set t c.loop-i.i w) c.loop-i.invariant (ap (λ (b : Bale). b.weight.pounds) c.index-bales-i.is)
     ∙ filled_more c.args.bales.now c.loop-i.i c.index-bales-i.result c.loop-i-test.true c.requires
 

@@ -5,11 +5,10 @@ use Rattle.domain.specs.Groups.{group_first}
 use Rattle.domain.specs.GroupsLemmas.{group-eq}
 use Rattle.domain.proofs.bounds.Group.with_lowest.Goals as goal
 
-pub invariant-of-result : goal.invariant-of-result
-invariant-of-result c = (
-  subst (λ n. intersection n c.args.self.possible.bits ≡ n) (sym (c.union.ensures ∙ ap (union c.args.self.sure.bits) c.requires)) (group_first c.args.self).ok,
-  tt,
-)
+pub invariant_of-result : goal.invariant_of-result
+invariant_of-result c = record {
+  ok = subst (λ n. intersection n c.args.self.possible.bits ≡ n) (sym (c.union.ensures ∙ ap (union c.args.self.sure.bits) c.requires)) (group_first c.args.self).ok;
+}
 
 pub returns : goal.returns
 returns c = group-eq _ _ (c.union.ensures ∙ ap (union c.args.self.sure.bits) c.requires) refl

@@ -5,12 +5,11 @@ use Rattle.domain.specs.Groups.{group_second}
 use Rattle.domain.specs.GroupsLemmas.{group-eq}
 use Rattle.domain.proofs.bounds.Group.without_lowest.Goals as goal
 
-pub invariant-of-result : goal.invariant-of-result
-invariant-of-result c = (
-  subst (λ n. intersection c.args.self.sure.bits n ≡ c.args.self.sure.bits) (sym (c.without.ensures ∙ ap (minus c.args.self.possible.bits) c.requires))
-      (group_second c.args.self).ok,
-  tt,
-)
+pub invariant_of-result : goal.invariant_of-result
+invariant_of-result c = record {
+  ok = subst (λ n. intersection c.args.self.sure.bits n ≡ c.args.self.sure.bits) (sym (c.without.ensures ∙ ap (minus c.args.self.possible.bits) c.requires))
+      (group_second c.args.self).ok;
+}
 
 pub returns : goal.returns
 returns c = group-eq _ _ refl (c.without.ensures ∙ ap (minus c.args.self.possible.bits) c.requires)
