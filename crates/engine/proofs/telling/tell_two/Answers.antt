@@ -3,9 +3,9 @@ use Rattle.std.proofs.Common.{[], ◌∷◌}
 use Rattle.engine.proofs.Firing.{both-fire}
 use Rattle.engine.proofs.telling.tell_two.Goals as goal
 
-pub returns-in-default : goal.returns-in-default
-returns-in-default g c =
+pub returns-in_default : goal.returns-in_default
+returns-in_default g c =
     both-fire g.met.D.Domain.bounds g.met.D.Domain.tells c.args.a c.args.x (c.args.b ∷ []) (c.args.y ∷ [])
-    c.args.row.now c.tell-one-first.new.row c.tell-one-second.new.row
-    c.tell-one-first.result c.tell-one-second.result c.joined.result c.cell-at-old.result c.joined.new.row
-    c.cell-at-old.ensures c.tell-one-first.ensures c.in-default.not-Empty c.tell-one-second.ensures c.joined.ensures.row c.joined.ensures.answer
+    c.args.row.now c.tell_one-first.new.row c.tell_one-second.new.row
+    c.tell_one-first.result c.tell_one-second.result c.joined.result c.cell_at-old.result c.joined.new.row
+    c.cell_at-old.ensures c.tell_one-first.ensures c.in_default.not-Empty c.tell_one-second.ensures c.joined.ensures.row c.joined.ensures.answer

@@ -12,8 +12,8 @@ use Rattle.text.proofs.list.read.read_places.Goals as goal
 pub parts-init : goal.parts-init
 parts-init c = (place-first (rising 0 (parts_of 43 c.args.text.now)), omega arith, omega arith)
 
-pub overflow-add-bits : goal.overflow-add-bits
-overflow-add-bits c = let h = bit-more c.parts.bits c.parts.new c.number-number.result (omega arith) (omega arith) (omega arith) in omega arith
+pub overflow_add-bits : goal.overflow_add-bits
+overflow_add-bits c = let h = bit-more c.parts.bits c.parts.new c.number-number.result (omega arith) (omega arith) (omega arith) in omega arith
 
 pub parts-preserved : goal.parts-preserved
 parts-preserved c =
@@ -25,8 +25,8 @@ parts-preserved c =
       omega arith,
     )
 
-pub invariant-of-result : goal.invariant-of-result
-invariant-of-result c = let h = bit-more c.parts.bits c.parts.new c.number-number.result (omega arith) (omega arith) (omega arith) in (omega arith, tt)
+pub invariant_of-result : goal.invariant_of-result
+invariant_of-result c = let h = bit-more c.parts.bits c.parts.new c.number-number.result (omega arith) (omega arith) (omega arith) in (omega arith, tt)
 
 pub returns-in-None : goal.returns-in-None
 returns-in-None c =
