@@ -1,7 +1,7 @@
 use Rattle.std.proofs.Common.{is_ok, ap, arith}
 use Rattle.text.proofs.Shown.{writing-none, writing-take, writing_pass, written-some, written_none}
 use Rattle.text.proofs.list.show.PlaceListDisplay.fmt.Goals as goal
-use Rattle.text.proofs.list.show.PlaceListDisplay.fmt.Goals.{then-rest-eq1+in-ok-write-place, else-rest-eq1}
+use Rattle.text.proofs.list.show.PlaceListDisplay.fmt.Goals.{then-rest-eq1+in_ok-write_place, else-rest-eq1}
 
 pub loop-place-init : goal.loop-place-init
 loop-place-init g c = writing-none g.W.Write.write_str_gives c.args.f.now c.args.self.now.bits
@@ -9,7 +9,7 @@ loop-place-init g c = writing-none g.W.Write.write_str_gives c.args.f.now c.args
 pub loop-place-preserved : goal.loop-place-preserved
 loop-place-preserved g c =
     elim c.if-rest-eq1.branch [
-      | then-rest-eq1+in-ok-write-place w ↦ writing-take g.W.Write.write_str_gives _ _ _ _ _ _ c.loop-place.invariant (omega arith) w.if-rest-eq1.true w.write_place.result w.write_place.new.f (ap is_ok w.in_ok-write_place.was) w.write_place.ensures _ _ w.first-is w.f-is
+      | then-rest-eq1+in_ok-write_place w ↦ writing-take g.W.Write.write_str_gives _ _ _ _ _ _ c.loop-place.invariant (omega arith) w.if-rest-eq1.true w.write_place.result w.write_place.new.f (ap is_ok w.in_ok-write_place.was) w.write_place.ensures _ _ w.first-is w.f-is
       | else-rest-eq1 w ↦ writing_pass g.W.Write.write_str_gives _ _ _ _ _ _ c.loop-place.invariant (omega arith) w.if-rest-eq1.false _ _ w.first-is w.f-is
     ]
 
