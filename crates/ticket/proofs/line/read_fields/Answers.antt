@@ -24,5 +24,5 @@ body_is dialect line s head fs letter short e l n =
 pub returns : goal.returns
 returns c =
     let e = head-and-rest c.args.text.now c.cut.result.0.now c.cut.result.1 c.cut.ensures.parts in
-    let b = body_is c.args.dialect c.args.line c.args.text.now c.cut.result.0.now _ c.in-ok-letter.letter c.requires e (sym c.in-ok-letter.ensures) (sym c.count-parts.ensures ∙ c.if-count-parts-field-count.false ∙ c.field-count.ensures) in
-    subst (Gives said c.read-body.result) (sym b) c.read-body.ensures
+    let b = body_is c.args.dialect c.args.line c.args.text.now c.cut.result.0.now _ c.in_ok-letter.letter c.requires e (sym c.in_ok-letter.ensures) (sym c.count_parts.ensures ∙ c.if-count_parts-field_count.false ∙ c.field_count.ensures) in
+    subst (Gives said c.read_body.result) (sym b) c.read_body.ensures

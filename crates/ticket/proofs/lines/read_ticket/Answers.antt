@@ -15,17 +15,17 @@ round-trips = record { numbers = numbers-round; lists = lists-round; rows = rows
 pub returns-then-text-gt-LARGEST : goal.returns-then-text-gt-LARGEST
 returns-then-text-gt-LARGEST c = record { round = round-trips; lines = splits c.args.text.now; cases = search rules }
 
-pub returns-in-err-push : goal.returns-in-err-push
-returns-in-err-push c =
-    let p = err_from_is_err_and c.from-residual.result c.from-residual.ensures.1 in
+pub returns-in_err-push : goal.returns-in_err-push
+returns-in_err-push c =
+    let p = err_from_is_err_and c.from_residual.result c.from_residual.ensures.1 in
     record { round = round-trips; lines = splits c.args.text.now; cases = rw (p.1, p.2) (omega arith) }
 
 pub lines-preserved : goal.lines-preserved
 lines-preserved c =
-    let t = c.take-line.ensures c.lines-test.true in (
-      readings-more c.args.dialect c.lines.line c.take-line.result.0.now c.take-line.result.1.now c.lines.rest.now _ (vec_items c.lines.readings) (vec_items c.push.new.self) c.read-line.result c.in-ok-push.ensures.items (told_is c.read-line.result _ c.read-line.ensures) t.0 c.lines.invariant.0,
+    let t = c.take_line.ensures c.lines-test.true in (
+      readings-more c.args.dialect c.lines.line c.take_line.result.0.now c.take_line.result.1.now c.lines.rest.now _ (vec_items c.lines.readings) (vec_items c.push.new.self) c.read_line.result c.in_ok-push.ensures.items (told_is c.read_line.result _ c.read_line.ensures) t.0 c.lines.invariant.0,
       omega (arith, t.1, c.lines.invariant.1),
-      omega (arith, c.in-ok-push.ensures.len, c.lines.invariant.2),
+      omega (arith, c.in_ok-push.ensures.len, c.lines.invariant.2),
     )
 
 pub returns : goal.returns
