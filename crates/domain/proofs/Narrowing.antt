@@ -1,5 +1,5 @@
 -- What follows from the laws of bounds, of heights and of what is told, for every kind of cell.
-use Rattle.std.proofs.Common.{◌≡◌, ℕ, ◌<◌, Bool, true, false, T, ◌⊎◌, Some, None, Option, sym, refl, ap, ◌∙◌, subst, inl, inr}
+use Rattle.std.proofs.Common.{◌≡◌, ℕ, ◌<◌, Bool, true, false, T, ◌⊎◌, Some, Option, sym, refl, ap, ◌∙◌, subst, inl, inr}
 use Rattle.domain.specs.Laws.{Within, BoundsLaws, HeightLaws}
 use Rattle.domain.specs.Tells.{TellLaws}
 use Rattle.domain.specs.Options.{answered}

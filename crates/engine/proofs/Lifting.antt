@@ -1,5 +1,5 @@
 -- The laws of operands give the laws of the propagator on rows.
-use Rattle.std.proofs.Common.{◌≡◌, ℕ, Bool, ◌⊎◌, List, map, Some, None, Option, sym, ap, ◌∙◌, subst, ⊎_elim}
+use Rattle.std.proofs.Common.{◌≡◌, ℕ, Bool, List, map, Some, None, Option, sym, ap, ◌∙◌, subst, ⊎_elim}
 use Rattle.domain.specs.Laws.{BoundsLaws, HeightLaws}
 use Rattle.domain.specs.Tells.{TellLaws}
 use Rattle.domain.specs.Options.{none-some, some_is, answered}

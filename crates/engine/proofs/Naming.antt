@@ -1,5 +1,5 @@
 -- Which cells a propagator reads and touches.
-use Rattle.std.proofs.Common.{◌≡◌, ℕ, zero, suc, Bool, true, false, eqb, ◌⊎◌, List, [], ◌∷◌, Some, None, Option, sym, refl, ap, ◌∙◌, subst, ⊎_elim, eqb-true}
+use Rattle.std.proofs.Common.{◌≡◌, ℕ, zero, suc, Bool, true, false, eqb, List, [], ◌∷◌, Some, None, Option, sym, refl, ap, ◌∙◌, subst, ⊎_elim, eqb-true}
 use borrow.Author.Tests.{eqb-false}
 use Rattle.domain.specs.Options.{none-some, some_is, answered}
 use Rattle.engine.specs.Rows.{item, Agree}

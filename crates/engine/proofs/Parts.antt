@@ -1,5 +1,5 @@
 -- Propagators on one kind of cell, in rows of several kinds.
-use Rattle.std.proofs.Common.{◌≡◌, ℕ, ◌⊎◌, List, [], ◌∷◌, map, Some, None, Option, sym, refl, ◌∙◌, subst, ⊎_elim}
+use Rattle.std.proofs.Common.{◌≡◌, ℕ, List, [], ◌∷◌, map, Some, None, Option, sym, refl, ◌∙◌, subst, ⊎_elim}
 use Rattle.domain.specs.Laws.{Within}
 use Rattle.domain.specs.Options.{none-some, some_is, answered}
 use Rattle.engine.specs.Rows.{Inside, Chosen, AllSingle}

@@ -1,5 +1,5 @@
 -- Rows that are told something: their choices are those of the old row that pass.
-use Rattle.std.proofs.Common.{◌≡◌, ℕ, zero, suc, Bool, ◌⊎◌, List, [], ◌∷◌, map, Some, None, Option, sym, ap, ◌∙◌, subst, ⊎_elim}
+use Rattle.std.proofs.Common.{◌≡◌, ℕ, zero, suc, Bool, List, [], ◌∷◌, map, Some, None, Option, sym, ap, ◌∙◌, subst, ⊎_elim}
 use Rattle.domain.specs.Laws.{BoundsLaws}
 use Rattle.domain.specs.Tells.{TellLaws}
 use Rattle.domain.specs.Options.{none-some, some_is, answered}

@@ -1,5 +1,5 @@
 -- Operands picked from a row.
-use Rattle.std.proofs.Common.{◌≡◌, ℕ, zero, suc, true, false, ◌||◌, eqb, ◌⊎◌, List, [], ◌∷◌, Some, None, sym, refl, subst, ⊎_elim, arith, eq-eqb}
+use Rattle.std.proofs.Common.{◌≡◌, ℕ, zero, suc, true, false, ◌||◌, eqb, List, [], ◌∷◌, Some, None, sym, refl, subst, ⊎_elim, arith, eq-eqb}
 use borrow.Author.Tests.{eqb-false}
 use Rattle.domain.specs.Laws.{Within}
 use Rattle.domain.specs.Options.{none-some, some_is, answered}

@@ -1,5 +1,5 @@
 -- Lists of places to text and back.
-use Rattle.std.proofs.Common.{◌≡◌, ℕ, zero, suc, ◌+◌, ◌-◌, ◌*◌, ◌/◌, ◌%◌, ◌^◌, ◌<◌, ◌≤◌, Bool, true, false, cond, eqb, List, [], ◌∷◌, ◌++◌, map, length, get_or, Some, None, decimal, Option, sym, refl, ap, ◌∙◌, mul_assoc, mul_comm, mul-add, arith, eqb-true}
+use Rattle.std.proofs.Common.{◌≡◌, ℕ, zero, suc, ◌+◌, ◌*◌, ◌/◌, ◌%◌, ◌^◌, ◌<◌, ◌≤◌, Bool, true, false, cond, eqb, List, [], ◌∷◌, ◌++◌, map, length, get_or, Some, None, decimal, Option, sym, refl, ap, ◌∙◌, mul_assoc, mul_comm, mul-add, arith, eqb-true}
 use mathlib.Core.HLevel.{is_prop→PathP}
 use native.Mathlib.Bridge.{le_prop}
 use borrow.Author.Tests.{eqb-false}
@@ -10,7 +10,7 @@ use Rattle.std.proofs.lemmas.Bool.{cond_both}
 use Rattle.std.proofs.lemmas.Str.Parse.{numerals_by_value, tells_digits, not_in_digits}
 use Rattle.std.proofs.lemmas.Fmt.{digits_decimal, decimal_nonempty, length-decimal-le}
 use Rattle.std.proofs.lemmas.List.{append-nil, get_or_append_left, length-map, length-append}
-use Rattle.text.specs.Parts.{parts_of, on_head, rejoined, Lacks, All}
+use Rattle.text.specs.Parts.{parts_of, rejoined, Lacks, All}
 use Rattle.text.specs.Numbers.{number_of, within}
 use Rattle.text.specs.Lists.{then_some, rising, dash, list_of, plus, list_text, places_from, members, listed, Lists-round}
 use Rattle.text.specs.declared.list.PlaceList.{PlaceList}

@@ -1,20 +1,17 @@
 -- Rows to text and back.
-use Rattle.std.proofs.Common.{◌≡◌, ℕ, zero, suc, ◌+◌, ◌-◌, ◌*◌, ◌^◌, ◌<◌, ◌≤◌, Bool, true, false, cond, eqb, ltb, List, [], ◌∷◌, ◌++◌, length, get_or, Some, None, Ok, Err, codes, decimal, Option, Result, sym, refl, ap, ◌∙◌, subst, ap₂, append-nil, arith, eqb-true}
+use Rattle.std.proofs.Common.{◌≡◌, ℕ, ◌+◌, ◌^◌, ◌<◌, ◌≤◌, Bool, true, false, cond, eqb, ltb, List, [], ◌∷◌, ◌++◌, length, get_or, Some, None, Ok, Err, decimal, Option, Result, sym, refl, ap, ◌∙◌, append-nil, arith, eqb-true}
 use mathlib.Core.HLevel.{is_prop→PathP}
 use native.Mathlib.Bridge.{le_prop}
-use Rattle.std.specs.List.{flat_map}
 use Rattle.std.specs.Option.{ok_or}
 use Rattle.std.proofs.lemmas.Bool.Decides.{nat_tests}
 use Rattle.std.proofs.lemmas.Fmt.{length-decimal-le}
 use Rattle.std.proofs.lemmas.List.{length-append}
 use Rattle.fault.specs.declared.Fault.{Fault}
-use Rattle.text.specs.declared.list.PlaceList.{PlaceList}
 use Rattle.ticket.specs.declared.entry.CellNumber.{CellNumber}
 use Rattle.ticket.specs.declared.entry.End.{End}
 use Rattle.ticket.specs.declared.entry.Row.{Row}
 use Rattle.ticket.specs.declared.entry.Row.TheVariants.{Group, Number}
 use Rattle.ticket.specs.declared.word.Dialect.{Dialect}
-use Rattle.ticket.specs.declared.word.Dialect.TheVariants.{Match, Scale}
 use Rattle.ticket.specs.declared.word.Letter.{Letter}
 use Rattle.ticket.specs.declared.word.Letter.TheVariants.{Bale as BaleLetter, Close as CloseLetter, Group as GroupLetter, Number as NumberLetter, State as StateLetter, Settle as SettleLetter}
 use Rattle.ticket.specs.declared.word.Word.{Word}
@@ -22,9 +19,9 @@ use Rattle.ticket.specs.declared.word.Word.TheVariants.{Pair, Triple, Member}
 use Rattle.text.specs.Answers.{and_then}
 use Rattle.ticket.specs.Entries.{Bounds, group, number, Said, declare, bounds}
 use Rattle.ticket.specs.Lines.{fields_of, fields_at, line_at, body_at, counted_at, group_at, range_at, cell_at, place_at, weight_at, amount_at, places_at, unused_at, field, bale_at, settle_at, operands_at}
-use Rattle.text.specs.Lists.{list_of, list_at, list_text, listed, plus}
+use Rattle.text.specs.Lists.{list_of, list_at, list_text, listed}
 use Rattle.text.specs.Numbers.{number_of, within, number_at}
-use Rattle.text.specs.Parts.{parts_of, rejoined, All}
+use Rattle.text.specs.Parts.{rejoined}
 use Rattle.ticket.specs.Rows.{row_text, row_letter, OnTicket, Rows-round}
 use Rattle.ticket.specs.Words.{knows_letter, known, letter_of, letter_at, word_at, field_count}
 use Rattle.text.proofs.Cuts.{Free, free-lacks, parts_whole, parts_cut, rejoined-parts}

@@ -16,7 +16,7 @@ use Rattle.text.specs.Numbers.{number_at}
 use Rattle.text.specs.Lists.{list_at}
 use Rattle.text.specs.Parts.{parts_of}
 use Rattle.ticket.specs.Words.{letter_at, word_at, field_count}
-use Rattle.ticket.specs.Entries.{Bounds, group, number, Claim, pair, triple, member, Said, bale, close, declare, state, settle}
+use Rattle.ticket.specs.Entries.{group, number, pair, triple, member, Said, bale, close, declare, state, settle}
 
 -- the fields of a line, parted by commas
 abbrev pub fields_of : List ℕ → List (List ℕ)

@@ -4,7 +4,7 @@ use Rattle.ticket.specs.declared.entry.Row.{Row}
 use Rattle.ticket.specs.declared.word.Dialect.{Dialect}
 use Rattle.ticket.specs.declared.word.Letter.{Letter}
 use Rattle.ticket.specs.declared.word.Letter.TheVariants.{Group, Number}
-use Rattle.ticket.specs.Entries.{Bounds, group, number, Said, declare, bounds}
+use Rattle.ticket.specs.Entries.{Bounds, group, number, declare, bounds}
 use Rattle.ticket.specs.Lines.{line_at}
 use Rattle.text.specs.Lists.{list_text}
 use Rattle.text.specs.Parts.{All}

@@ -1,4 +1,3 @@
-use Rattle.std.proofs.Common.{arith}
 use Rattle.ticket.proofs.LineEnds.{lines_cut, lines-last}
 use Rattle.ticket.proofs.lines.take_line.Goals as goal
 
