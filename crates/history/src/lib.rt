@@ -14,5 +14,5 @@ pub use entered::{Barred, Entered};
 
 /// Every history of calls to a new sheet keeps the promise, whatever the kind of cell, the propagators and what is entered.
 pub fn promise_kept<C: Halves, B, R: Propagator<C, B>, E: Entered<C, B>>()
-    ensures { Promised C.Domain C.Halves R.Propagator E.Entered }
+    ensures { Promised C.Domain C.Halves.own R.Propagator E.Entered }
 {}

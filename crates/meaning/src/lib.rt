@@ -13,5 +13,5 @@ pub fn resting_theorems<C: Domain, B, R: Propagator<C, B>>(book: &B)
 
 /// Of every kind of cell with halves and every propagator: what holds of a search.
 pub fn search_theorems<C: Halves, B, R: Propagator<C, B>>(book: &B)
-    ensures { SearchTheorems C.Domain C.Halves R.Propagator book.now }
+    ensures { SearchTheorems C.Domain C.Halves.own R.Propagator book.now }
 {}

@@ -19,7 +19,7 @@ fn serve_in<C: Halves, B: Drop, R: Propagator<C, B>, E: Entered<C, B>>(
     memory: &mut [C],
 ) -> Result<Answer<C>, AllocError>
     requires { asks_for call ≤ length memory.old }
-    ensures { Serves C.Domain C.Halves R.Propagator E.Entered (told_of sheet.old) (bounds_of sheet.old) call result (told_of sheet.new) (bounds_of sheet.new) }
+    ensures { Serves C.Domain C.Halves.own R.Propagator E.Entered (told_of sheet.old) (bounds_of sheet.old) call result (told_of sheet.new) (bounds_of sheet.new) }
 {
     let asked = asks_for(call);
     serve(heap, sheet, call, &mut memory[..asked])
@@ -32,7 +32,7 @@ pub fn play<C: Halves, B: Drop, R: Propagator<C, B>, E: Entered<C, B>>(
     calls: &[Call<E, R>],
     memory: &mut [C],
 ) -> Result<Vec<Answer<C>>, Stopped>
-    ensures { Played C.Domain C.Halves R.Propagator E.Entered vec_items book calls.now (length memory.old) result }
+    ensures { Played C.Domain C.Halves.own R.Propagator E.Entered vec_items book calls.now (length memory.old) result }
 {
     let mut sheet = Sheet::new(heap, book)?;
     let mut answers = Vec::new(heap);

@@ -63,7 +63,7 @@ fn settled<C: Halves, B: Drop, R: Propagator<C, B>>(
     limit: u32,
     stack: &mut [C],
 ) -> Result<Answer<C>, AllocError>
-    ensures { IfOk result (λ a. Ends C.Domain C.Halves R.Propagator (told_of sheet.now) (bounds_of sheet.now) line limit stack.old stack.new (answer_of a)) }
+    ensures { IfOk result (λ a. Ends C.Domain C.Halves.own R.Propagator (told_of sheet.now) (bounds_of sheet.now) line limit stack.old stack.new (answer_of a)) }
 {
     match sheet.settle(line, limit, stack) {
         Ok(settled) => {
@@ -81,7 +81,7 @@ pub fn serve<C: Halves, B: Drop, R: Propagator<C, B>, E: Entered<C, B>>(
     call: Call<E, R>,
     memory: &mut [C],
 ) -> Result<Answer<C>, AllocError>
-    ensures { length memory.old ≡ asks_for call → Serves C.Domain C.Halves R.Propagator E.Entered (told_of sheet.old) (bounds_of sheet.old) call result (told_of sheet.new) (bounds_of sheet.new) }
+    ensures { length memory.old ≡ asks_for call → Serves C.Domain C.Halves.own R.Propagator E.Entered (told_of sheet.old) (bounds_of sheet.old) call result (told_of sheet.new) (bounds_of sheet.new) }
 {
     match call {
         Call::Declare(line, cell, bounds) => Ok(taken(sheet.declare(line, cell, bounds))),

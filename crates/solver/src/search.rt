@@ -92,7 +92,7 @@ fn seek<C: Halves, B, R: Propagator<C, B>>(
     requires cuts { at.cuts ≤ limits.cuts }
     requires depth { at.depth ≤ limits.rows }
     requires room { (limits.rows - at.depth + 1) * n ≤ length stack.old }
-    ensures { Sought C.Domain C.Halves R.Propagator book.now rules.now limits at waits.bits (take n stack.old) (take n stack.new) result }
+    ensures { Sought C.Domain C.Halves.own R.Propagator book.now rules.now limits at waits.bits (take n stack.old) (take n stack.new) result }
 {
     if !rest_row(book, rules, wakes, waits, n, stack) {
         return Settled {
@@ -167,7 +167,7 @@ fn search_from<C: Halves, B, R: Propagator<C, B>>(
     requires rules { length rules.now ≤ 64 }
     requires some { 1 ≤ length cells.now }
     requires room { length cells.now ≤ length stack.old }
-    ensures { SearchedOn C.Domain C.Halves R.Propagator book.now rules.now cells.now cut_limit stack.old stack.new result }
+    ensures { SearchedOn C.Domain C.Halves.own R.Propagator book.now rules.now cells.now cut_limit stack.old stack.new result }
 {
     let n = cells.len();
     let limits = Limits {
@@ -197,7 +197,7 @@ pub fn settle<C: Halves, B, R: Propagator<C, B>>(
     cut_limit: usize,
     stack: &mut [C],
 ) -> Option<Settled>
-    ensures { Settles C.Domain C.Halves R.Propagator book.now (listed rules.now) cells.now cut_limit stack.old stack.new result }
+    ensures { Settles C.Domain C.Halves.own R.Propagator book.now (listed rules.now) cells.now cut_limit stack.old stack.new result }
 {
     let n = cells.len();
     if stack.len() < n {

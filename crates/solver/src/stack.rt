@@ -14,7 +14,7 @@ pub enum Side {
 
 // The half of the cell on this side.
 fn half<C: Halves>(cell: C, side: Side) -> C
-    ensures { result ≡ half_of C.Halves side cell }
+    ensures { result ≡ half_of C.Halves.own side cell }
 {
     match side {
         Side::First => cell.first_half(),
@@ -58,7 +58,7 @@ pub fn put_half<C: Halves>(stack: &mut [C], n: usize, i: usize, side: Side)
     requires room { n + n ≤ length stack.old }
     requires within { i < n }
     ensures kept { take n stack.new ≡ take n stack.old }
-    ensures put { take n (drop n stack.new) ≡ change (half_of C.Halves side) (take n stack.old) i }
+    ensures put { take n (drop n stack.new) ≡ change (half_of C.Halves.own side) (take n stack.old) i }
 {
     copy_up(stack, n);
     let cell = half(stack[i], side);
