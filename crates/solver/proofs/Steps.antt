@@ -36,15 +36,6 @@ not_none E.None A n q = n refl
 not_none E.Spent A n q = let z : ◌≡◌ {A = ℕ} 0 1 = cc in omega arith
 not_none E.Deep A n q = let z : ◌≡◌ {A = ℕ} 0 1 = cc in omega arith
 
--- what a test for unequal tells
-pub unequal : (A B : Type 0) (x : Bool) → cond x A B → true ≡ not x → B
-unequal A B true a e = absurd (true-false e)
-unequal A B false b e = b
-
-pub equal : (A B : Type 0) (x : Bool) → cond x A B → false ≡ not x → A
-equal A B true a e = a
-equal A B false b e = absurd (true-false (sym e))
-
 -- ---- a cell that is cut
 
 item-change : {C : Type 0} (f : C → C) (Q : List C) (i j : ℕ) → (j ≡ i → ⊥) → item (change f Q i) j ≡ item Q j

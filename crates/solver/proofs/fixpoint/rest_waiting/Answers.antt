@@ -95,4 +95,4 @@ returns-in-Empty g c =
 pub returns : goal.returns
 returns g c = λ others. let t = c.loop-place.invariant.1 others in
     holding-end g.C.Domain g.R.Propagator c.args.book.now c.args.rules.now c.args.row.now c.loop-place.row t.0
-    (subst (λ m. OthersRest g.C.Domain g.R.Propagator c.args.book.now c.args.rules.now m c.loop-place.row) c.in-default.ensures t.1)
+    (subst (λ m. OthersRest g.C.Domain g.R.Propagator c.args.book.now c.args.rules.now m c.loop-place.row) c.in_default.ensures t.1)

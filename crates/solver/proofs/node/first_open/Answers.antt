@@ -6,12 +6,12 @@ use Rattle.engine.proofs.Rows.{item-here}
 use Rattle.solver.proofs.Opening.{all_of, first_of, single_more}
 use Rattle.solver.proofs.node.first_open.Goals as goal
 
-pub returns-then-not-is-single : goal.returns-then-not-is-single
-returns-then-not-is-single g c =
+pub returns-then-not-is_single : goal.returns-then-not-is_single
+returns-then-not-is_single g c =
     let x = c.index-row-i.result in
     let row = c.args.row.now in
     let here : item row c.loop-i.i ≡ Some x = item-here row c.loop-i.i x (omega arith) c.index-row-i.is in
-    let high : 0 < g.C.Domain.height x = omega (arith, eqb-false (g.C.Domain.height x) 0 (sym c.if-not-is-single.ensures)) in
+    let high : 0 < g.C.Domain.height x = omega (arith, eqb-false (g.C.Domain.height x) 0 (sym c.if-not-is_single.ensures)) in
     record { all = λ e. absurd (omega arith); here = λ _. first_of g.C.Domain.height row c.loop-i.i x here c.loop-i.invariant high }
 
 pub loop-i-preserved : goal.loop-i-preserved
@@ -19,7 +19,7 @@ loop-i-preserved g c =
     let x = c.index-row-i.result in
     let row = c.args.row.now in
     let here : item row c.loop-i.i ≡ Some x = item-here row c.loop-i.i x (omega arith) c.index-row-i.is in
-    single_more g.C.Domain.height row c.loop-i.i x here (eqb-true (g.C.Domain.height x) 0 (sym c.if-not-is-single.ensures)) c.loop-i.invariant
+    single_more g.C.Domain.height row c.loop-i.i x here (eqb-true (g.C.Domain.height x) 0 (sym c.if-not-is_single.ensures)) c.loop-i.invariant
 
 pub returns : goal.returns
 returns g c = record {

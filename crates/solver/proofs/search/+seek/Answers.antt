@@ -1,6 +1,8 @@
 -- The search takes a half to rest, and then tries the halves of a cell in turn.
 use Rattle.std.proofs.Common.{◌≡◌, ℕ, ◌+◌, ◌-◌, ◌*◌, ◌<◌, ◌≤◌, true, false, ◌⊎◌, length, take, drop, sym, refl, ap, ◌∙◌, subst, inl, inr, ⊎_elim, arith, rules}
 use borrow.Rule.Slice.PartMut.{put_mid}
+use denote.Enum.Bare.{differs_true, differs_false}
+use Rattle.solver.specs.contracts.search.End.{the_type}
 use Rattle.std.proofs.lemmas.List.{length-take-le}
 use Rattle.meaning.specs.Resting.{Widest, NoneRests}
 use Rattle.meaning.specs.Search.{FirstOpen, change, Seek, half, all-single, no-cut-left, no-row-left, turn-back, child}
@@ -9,28 +11,28 @@ use Rattle.solver.specs.Endings.{ending, Sought}
 use Rattle.solver.proofs.Opening.{open-within}
 use Rattle.solver.proofs.Sharing.{namer-within}
 use Rattle.solver.proofs.Rows.{room-two, room-up, room-one, above-first, above-back, front-stays, above-long, lent-long, lent_same, room-part}
-use Rattle.solver.proofs.Steps.{unequal, equal, cut-waits, of-half, step-first, step-second}
+use Rattle.solver.proofs.Steps.{cut-waits, of-half, step-first, step-second}
 use Rattle.solver.proofs.search.+seek.Goals as goal
 
-pub returns-then-not-rest-row : goal.returns-then-not-rest-row
-returns-then-not-rest-row g t c = record {
+pub returns-then-not-rest_row : goal.returns-then-not-rest_row
+returns-then-not-rest_row g t c = record {
   few = c.requires.cuts;
-  ended = λ o. turn-back (c.if-not-rest-row.ensures o);
-  kept = λ o _. inl (c.if-not-rest-row.ensures o);
+  ended = λ o. turn-back (c.if-not-rest_row.ensures o);
+  kept = λ o _. inl (c.if-not-rest_row.ensures o);
 }
 
-pub after-cell-woken-requires : goal.after-cell-woken-requires
-after-cell-woken-requires g t c =
-    let h = open-within g.C.Domain.height (take c.args.n c.rest-row.new.stack) c.in-Cut.i c.in-Cut.ensures.0 in
+pub after_cell-woken-requires : goal.after_cell-woken-requires
+after_cell-woken-requires g t c =
+    let h = open-within g.C.Domain.height (take c.args.n c.rest_row.new.stack) c.in-Cut.i c.in-Cut.ensures.0 in
     let one = room-one c.args.n c.args.at.depth c.args.limits.rows _ c.requires.room in
-    let long = length-take-le c.args.n c.rest-row.new.stack (omega arith) in
+    let long = length-take-le c.args.n c.rest_row.new.stack (omega arith) in
     record { few = c.requires.rules; wired = c.requires.wired; within = omega arith }
 
-pub put-half-requires : goal.put-half-requires
-put-half-requires g t c =
-    let h = open-within g.C.Domain.height (take c.args.n c.rest-row.new.stack) c.in-Cut.i c.in-Cut.ensures.0 in
+pub put_half-requires : goal.put_half-requires
+put_half-requires g t c =
+    let h = open-within g.C.Domain.height (take c.args.n c.rest_row.new.stack) c.in-Cut.i c.in-Cut.ensures.0 in
     let two = room-two c.args.n c.args.at.depth c.args.limits.rows _ c.in-Cut.ensures.2 c.requires.room in
-    let long = length-take-le c.args.n c.rest-row.new.stack (omega arith) in
+    let long = length-take-le c.args.n c.rest_row.new.stack (omega arith) in
     record { room = omega arith; within = omega arith }
 
 pub seek-one-requires : goal.seek-one-requires
@@ -38,9 +40,9 @@ seek-one-requires g t c κs within =
     let o = c.in-Cut.ensures in
     let lc = o.1 in
     let lt = o.2 in
-    let named : OfRules c.args.rules.now c.after-cell-woken.result.bits =
-    namer-within g.R.Propagator.names c.args.rules.now c.in-Cut.i c.after-cell-woken.result.bits c.after-cell-woken.ensures in
-    let room = room-part c.args.n c.args.at.depth c.first.result.depth c.args.limits.rows c.put-half.new.stack lt c.first.ensures.depth (let r = c.requires.room in omega arith) in
+    let named : OfRules c.args.rules.now c.after_cell-woken.result.bits =
+    namer-within g.R.Propagator.names c.args.rules.now c.in-Cut.i c.after_cell-woken.result.bits c.after_cell-woken.ensures in
+    let room = room-part c.args.n c.args.at.depth c.first.result.depth c.args.limits.rows c.put_half.new.stack lt c.first.ensures.depth (let r = c.requires.room in omega arith) in
     let cuts = c.first.ensures.cuts in
     let depth = c.first.ensures.depth in
     search rules
@@ -48,7 +50,7 @@ seek-one-requires g t c κs within =
 pub lift-requires : goal.lift-requires
 lift-requires g t c =
     let n = c.args.n in
-    let s = c.put-half.new.stack in
+    let s = c.put_half.new.stack in
     let ys = c.seek-one.new.stack in
     let two = room-two n c.args.at.depth c.args.limits.rows _ c.in-Cut.ensures.2 c.requires.room in
     lent-long n (length s - n) s ys (omega arith) (above-long n s ys (omega arith) (omega arith))
@@ -63,48 +65,48 @@ returns-then-ne g t c =
     let at = c.args.at in
     let n = c.args.n in
     let i = c.in-Cut.i in
-    let s = c.put-half.new.stack in
+    let s = c.put_half.new.stack in
     let ys = c.seek-one.new.stack in
     let P = take n c.args.stack.now in
-    let Q = take n c.rest-row.new.stack in
+    let Q = take n c.rest_row.new.stack in
     let o = c.in-Cut.ensures in
     let two = room-two n at.depth limits.rows _ o.2 c.requires.room in
     let n-s : n ≤ length s = omega arith in
     let long : n ≤ length ys = above-long n s ys (omega arith) (omega arith) in
-    let widest : OthersRest kind rule book rules c.args.waits.bits P → Widest kind rule book rules P Q = c.if-not-rest-row.ensures in
+    let widest : OthersRest kind rule book rules c.args.waits.bits P → Widest kind rule book rules P Q = c.if-not-rest_row.ensures in
     record {
       few = c.seek-one.ensures.few;
       ended = λ others.
-          let waits = cut-waits kind rule book (g.met.R.Propagator.narrowing book) rules g.C.Halves.first Q i c.after-cell-woken.result.bits c.after-cell-woken.ensures (widest others).rests in
-          let one = of-half kind g.C.Halves rule book rules limits.cuts limits.rows c.after-cell-woken.result.bits (at.cuts + 1) _ (at.depth + 1) _ _ (change g.C.Halves.first Q i) _ _
-          c.first.ensures.cuts c.first.ensures.depth (above-first n s (omega arith) ∙ c.put-half.ensures.put) waits c.seek-one.ensures.ended in
+          let waits = cut-waits kind rule book (g.met.R.Propagator.narrowing book) rules g.C.Halves.first Q i c.after_cell-woken.result.bits c.after_cell-woken.ensures (widest others).rests in
+          let one = of-half kind g.C.Halves rule book rules limits.cuts limits.rows c.after_cell-woken.result.bits (at.cuts + 1) _ (at.depth + 1) _ _ (change g.C.Halves.first Q i) _ _
+          c.first.ensures.cuts c.first.ensures.depth (above-first n s (omega arith) ∙ c.put_half.ensures.put) waits c.seek-one.ensures.ended in
           step-first kind g.C.Halves rule book rules limits.cuts limits.rows at.cuts at.depth i _ P Q c.seek-one.result.end (take n ys) _ (widest others) o.0 o.1 o.2
-          (let q = c.if-ne.ensures in unequal _ _ q.0 q.1 q.2) one (λ e. c.lift.ensures.found e ∙ above-back n (length s - n) s ys n-s long);
-      kept = λ others e. inr (subst (Widest kind rule book rules P) (sym (c.lift.ensures.other e ∙ front-stays n (length s - n) s ys n-s ∙ c.put-half.ensures.kept)) (widest others));
+          (differs_true the_type _ _ (sym c.if-ne.ensures)) one (λ e. c.lift.ensures.found e ∙ above-back n (length s - n) s ys n-s long);
+      kept = λ others e. inr (subst (Widest kind rule book rules P) (sym (c.lift.ensures.other e ∙ front-stays n (length s - n) s ys n-s ∙ c.put_half.ensures.kept)) (widest others));
     }
 
-pub put-half-requires-in-Cut : goal.put-half-requires-in-Cut
-put-half-requires-in-Cut g t c =
+pub put_half-requires-in-Cut : goal.put_half-requires-in-Cut
+put_half-requires-in-Cut g t c =
     let n = c.args.n in
-    let s = c.put-half.new.stack in
+    let s = c.put_half.new.stack in
     let ys = c.seek-one.new.stack in
-    let h = open-within g.C.Domain.height (take n c.rest-row.new.stack) c.in-Cut.i c.in-Cut.ensures.0 in
+    let h = open-within g.C.Domain.height (take n c.rest_row.new.stack) c.in-Cut.i c.in-Cut.ensures.0 in
     let two = room-two n c.args.at.depth c.args.limits.rows _ c.in-Cut.ensures.2 c.requires.room in
-    let long = length-take-le n c.rest-row.new.stack (omega arith) in
+    let long = length-take-le n c.rest_row.new.stack (omega arith) in
     record { room = lent-long n (length s - n) s ys (omega arith) (above-long n s ys (omega arith) (omega arith)); within = omega arith }
 
 pub seek-two-requires : goal.seek-two-requires
 seek-two-requires g t c κs within =
     let n = c.args.n in
-    let s = c.put-half.new.stack in
+    let s = c.put_half.new.stack in
     let ys = c.seek-one.new.stack in
     let o = c.in-Cut.ensures in
     let lt = o.2 in
-    let named : OfRules c.args.rules.now c.after-cell-woken.result.bits =
-    namer-within g.R.Propagator.names c.args.rules.now c.in-Cut.i c.after-cell-woken.result.bits c.after-cell-woken.ensures in
+    let named : OfRules c.args.rules.now c.after_cell-woken.result.bits =
+    namer-within g.R.Propagator.names c.args.rules.now c.in-Cut.i c.after_cell-woken.result.bits c.after_cell-woken.ensures in
     let two = room-two n c.args.at.depth c.args.limits.rows _ lt c.requires.room in
     let same : length (put_mid n (length s - n) s ys) ≡ length s = lent_same n s ys (omega arith) (omega arith) in
-    let room = room-part n c.args.at.depth c.second.result.depth c.args.limits.rows c.put-half-in-Cut.new.stack lt c.second.ensures.depth (let r = c.requires.room in omega arith) in
+    let room = room-part n c.args.at.depth c.second.result.depth c.args.limits.rows c.put_half-in-Cut.new.stack lt c.second.ensures.depth (let r = c.requires.room in omega arith) in
     let cuts = c.second.ensures.cuts in
     let few = c.seek-one.ensures.few in
     let depth = c.second.ensures.depth in
@@ -113,9 +115,9 @@ seek-two-requires g t c κs within =
 pub lift-requires-in-Cut : goal.lift-requires-in-Cut
 lift-requires-in-Cut g t c =
     let n = c.args.n in
-    let s = c.put-half-in-Cut.new.stack in
+    let s = c.put_half-in-Cut.new.stack in
     let ys = c.seek-two.new.stack in
-    let s' = c.put-half.new.stack in
+    let s' = c.put_half.new.stack in
     let ys' = c.seek-one.new.stack in
     let two = room-two n c.args.at.depth c.args.limits.rows _ c.in-Cut.ensures.2 c.requires.room in
     let lent = lent-long n (length s' - n) s' ys' (omega arith) (above-long n s' ys' (omega arith) (omega arith)) in
@@ -125,8 +127,8 @@ lift-requires-in-Cut g t c =
 pub returns-in-Single : goal.returns-in-Single
 returns-in-Single g t c = record {
   few = c.requires.cuts;
-  ended = λ o. child (c.if-not-rest-row.ensures o) (all-single c.in-Single.ensures);
-  kept = λ o _. inr (c.if-not-rest-row.ensures o);
+  ended = λ o. child (c.if-not-rest_row.ensures o) (all-single c.in-Single.ensures);
+  kept = λ o _. inr (c.if-not-rest_row.ensures o);
 }
 
 pub returns-in-Spent : goal.returns-in-Spent
@@ -134,8 +136,8 @@ returns-in-Spent g t c =
     let s = c.in-Spent.ensures in
     record {
       few = c.requires.cuts;
-      ended = λ o. child (c.if-not-rest-row.ensures o) (no-cut-left s.0.0 s.0.1 s.1);
-      kept = λ o _. inr (c.if-not-rest-row.ensures o);
+      ended = λ o. child (c.if-not-rest_row.ensures o) (no-cut-left s.0.0 s.0.1 s.1);
+      kept = λ o _. inr (c.if-not-rest_row.ensures o);
     }
 
 pub returns-in-Deep : goal.returns-in-Deep
@@ -143,8 +145,8 @@ returns-in-Deep g t c =
     let s = c.in-Deep.ensures in
     record {
       few = c.requires.cuts;
-      ended = λ o. child (c.if-not-rest-row.ensures o) (no-row-left s.0.0 s.0.1 s.1 s.2);
-      kept = λ o _. inr (c.if-not-rest-row.ensures o);
+      ended = λ o. child (c.if-not-rest_row.ensures o) (no-row-left s.0.0 s.0.1 s.1 s.2);
+      kept = λ o _. inr (c.if-not-rest_row.ensures o);
     }
 
 pub returns-else-ne : goal.returns-else-ne
@@ -157,12 +159,12 @@ returns-else-ne g t c =
     let at = c.args.at in
     let n = c.args.n in
     let i = c.in-Cut.i in
-    let s = c.put-half.new.stack in
+    let s = c.put_half.new.stack in
     let ys = c.seek-one.new.stack in
-    let s₂ = c.put-half-in-Cut.new.stack in
+    let s₂ = c.put_half-in-Cut.new.stack in
     let zs = c.seek-two.new.stack in
     let P = take n c.args.stack.now in
-    let Q = take n c.rest-row.new.stack in
+    let Q = take n c.rest_row.new.stack in
     let o = c.in-Cut.ensures in
     let two = room-two n at.depth limits.rows _ o.2 c.requires.room in
     let n-s : n ≤ length s = omega arith in
@@ -171,22 +173,22 @@ returns-else-ne g t c =
     let two₂ : n + n ≤ length s₂ = omega arith in
     let n-s₂ : n ≤ length s₂ = omega arith in
     let long₂ : n ≤ length zs = above-long n s₂ zs two₂ (omega arith) in
-    let stays : take n (put_mid n (length s - n) s ys) ≡ Q = front-stays n (length s - n) s ys n-s ∙ c.put-half.ensures.kept in
-    let widest : OthersRest kind rule book rules c.args.waits.bits P → Widest kind rule book rules P Q = c.if-not-rest-row.ensures in
+    let stays : take n (put_mid n (length s - n) s ys) ≡ Q = front-stays n (length s - n) s ys n-s ∙ c.put_half.ensures.kept in
+    let widest : OthersRest kind rule book rules c.args.waits.bits P → Widest kind rule book rules P Q = c.if-not-rest_row.ensures in
     record {
       few = c.seek-two.ensures.few;
       ended = λ others.
           let rests = (widest others).rests in
           let laws = g.met.R.Propagator.narrowing book in
-          let set = c.after-cell-woken.result.bits in
+          let set = c.after_cell-woken.result.bits in
           let one = of-half kind g.C.Halves rule book rules limits.cuts limits.rows set (at.cuts + 1) _ (at.depth + 1) _ _ (change g.C.Halves.first Q i) _ _
-          c.first.ensures.cuts c.first.ensures.depth (above-first n s (omega arith) ∙ c.put-half.ensures.put)
-          (cut-waits kind rule book laws rules g.C.Halves.first Q i set c.after-cell-woken.ensures rests) c.seek-one.ensures.ended in
+          c.first.ensures.cuts c.first.ensures.depth (above-first n s (omega arith) ∙ c.put_half.ensures.put)
+          (cut-waits kind rule book laws rules g.C.Halves.first Q i set c.after_cell-woken.ensures rests) c.seek-one.ensures.ended in
           let second = of-half kind g.C.Halves rule book rules limits.cuts limits.rows set c.seek-one.result.cuts _ (at.depth + 1) _ _ (change g.C.Halves.second Q i) _ _
-          c.second.ensures.cuts c.second.ensures.depth (above-first n s₂ two₂ ∙ c.put-half-in-Cut.ensures.put ∙ ap (λ q. change g.C.Halves.second q i) stays)
-          (cut-waits kind rule book laws rules g.C.Halves.second Q i set c.after-cell-woken.ensures rests) c.seek-two.ensures.ended in
+          c.second.ensures.cuts c.second.ensures.depth (above-first n s₂ two₂ ∙ c.put_half-in-Cut.ensures.put ∙ ap (λ q. change g.C.Halves.second q i) stays)
+          (cut-waits kind rule book laws rules g.C.Halves.second Q i set c.after_cell-woken.ensures rests) c.seek-two.ensures.ended in
           step-second kind g.C.Halves rule book rules limits.cuts limits.rows at.cuts at.depth i _ _ P Q c.seek-one.result.end c.seek-two.result.end (take n ys) (take n zs) _
-          (widest others) o.0 o.1 o.2 (let q = c.if-ne.ensures in equal _ _ q.0 q.1 q.2) one second (λ e. c.lift-in-Cut.ensures.found e ∙ above-back n (length s₂ - n) s₂ zs n-s₂ long₂);
+          (widest others) o.0 o.1 o.2 (differs_false the_type tt _ _ (sym c.if-ne.ensures)) one second (λ e. c.lift-in-Cut.ensures.found e ∙ above-back n (length s₂ - n) s₂ zs n-s₂ long₂);
       kept = λ others e. inr (subst (Widest kind rule book rules P)
-          (sym (c.lift-in-Cut.ensures.other e ∙ front-stays n (length s₂ - n) s₂ zs n-s₂ ∙ c.put-half-in-Cut.ensures.kept ∙ stays)) (widest others));
+          (sym (c.lift-in-Cut.ensures.other e ∙ front-stays n (length s₂ - n) s₂ zs n-s₂ ∙ c.put_half-in-Cut.ensures.kept ∙ stays)) (widest others));
     }

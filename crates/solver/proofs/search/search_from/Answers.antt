@@ -11,7 +11,7 @@ use Rattle.solver.proofs.search.search_from.Goals as goal
 
 pub seek-requires : goal.seek-requires
 seek-requires g c =
-    let room = whole-rows (length c.args.stack.now) (length c.args.cells.now) c.rows-above.result c.start.result.depth c.requires.some c.requires.room c.rows-above.ensures c.start.ensures.depth in
+    let room = whole-rows (length c.args.stack.now) (length c.args.cells.now) c.rows_above.result c.start.result.depth c.requires.some c.requires.room c.rows_above.ensures c.start.ensures.depth in
     record {
       rules = c.requires.rules;
       wired = c.new-wakes.ensures;
@@ -32,11 +32,11 @@ returns g c =
     let bounds = g.met.C.Domain.bounds in
     let set = c.empty.result.bits in
     let laid : take (length cells) c.lay.new.stack ≡ cells = c.lay.ensures in
-    let Found : ℕ → Type 0 = λ rows. Searched kind halves rule book rules c.args.cut-limit rows cells (ending c.seek.result.end (take (length cells) c.seek.new.stack)) c.seek.result.cuts in
+    let Found : ℕ → Type 0 = λ rows. Searched kind halves rule book rules c.args.cut_limit rows cells (ending c.seek.result.end (take (length cells) c.seek.new.stack)) c.seek.result.cuts in
     record {
       room = c.requires.room;
-      searched = λ rests. subst Found c.rows-above.ensures (at_rest kind halves rule book rules c.args.cut-limit c.rows-above.result bounds rests
-          (of-half kind halves rule book rules c.args.cut-limit c.rows-above.result set 0 _ 0 _ _ cells _ _ c.start.ensures.cuts c.start.ensures.depth laid (all_rest kind rule book rules set cells rests) c.seek.ensures.ended));
+      searched = λ rests. subst Found c.rows_above.ensures (at_rest kind halves rule book rules c.args.cut_limit c.rows_above.result bounds rests
+          (of-half kind halves rule book rules c.args.cut_limit c.rows_above.result set 0 _ 0 _ _ cells _ _ c.start.ensures.cuts c.start.ensures.depth laid (all_rest kind rule book rules set cells rests) c.seek.ensures.ended));
       kept = λ rests e.
           let rests' : Rests kind rule book rules (take (length cells) c.lay.new.stack) = subst (Rests kind rule book rules) (sym laid) rests in
           stays kind rule book rules bounds _ _ rests' (c.seek.ensures.kept (all_rest kind rule book rules set _ rests') e) ∙ laid;

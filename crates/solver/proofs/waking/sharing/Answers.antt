@@ -4,7 +4,7 @@ use lib.Bits.{bit_or}
 use Rattle.solver.specs.Waking.{Sharers}
 use Rattle.solver.proofs.Sharing.{sharers-none, sharers-more, sharers-same}
 use Rattle.solver.proofs.waking.sharing.Goals as goal
-use Rattle.solver.proofs.waking.sharing.Goals.{then-names-cell, else-names-cell}
+use Rattle.solver.proofs.waking.sharing.Goals.{then-names_cell, else-names_cell}
 
 pub loop-cell-init : goal.loop-cell-init
 loop-cell-init g c =
@@ -17,7 +17,7 @@ loop-cell-preserved g c =
     let rules = c.args.rules.now in
     let i = c.loop-cell.cell in
     let P : ℕ → Type 0 = Sharers names rules (i + 1) c.args.rule in
-    elim c.if-names-cell.branch [
-      | then-names-cell w ↦ subst P (sym (ap (λ s. s.bits) w.set-is ∙ w.union-set.ensures)) (sharers-more names rules c.args.rule i _ c.loop-cell.invariant _ w.named.ensures)
-      | else-names-cell w ↦ subst P (sym (ap (λ s. s.bits) w.set-is)) (sharers-same names rules c.args.rule i _ c.loop-cell.invariant (sym w.if-names-cell.ensures))
+    elim c.if-names_cell.branch [
+      | then-names_cell w ↦ subst P (sym (ap (λ s. s.bits) w.set-is ∙ w.union-set.ensures)) (sharers-more names rules c.args.rule i _ c.loop-cell.invariant _ w.named.ensures)
+      | else-names_cell w ↦ subst P (sym (ap (λ s. s.bits) w.set-is)) (sharers-same names rules c.args.rule i _ c.loop-cell.invariant (sym w.if-names_cell.ensures))
     ]
