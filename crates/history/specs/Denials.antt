@@ -1,5 +1,5 @@
 -- Which calls are denied, each by the first check that fails.
-use Rattle.std.specs.Prelude.{ℕ, ◌+◌, Bool, true, false, not, ◌&&◌, List, length, Some, None, Ok, Err, Option, Result, ◌==◌, nat_le, nat_lt}
+use Rattle.std.specs.Prelude.{ℕ, ◌+◌, Bool, true, false, cond, not, ◌&&◌, List, length, Some, None, Ok, Err, Option, Result, ◌==◌, nat_le, nat_lt}
 use Rattle.fault.specs.declared.Fault.{Fault}
 use Rattle.fault.specs.declared.Refusal.{Refusal}
 use Rattle.fault.specs.declared.Refusal.TheVariants as Refusals
@@ -47,9 +47,13 @@ refusal_of NotDeclared = Refusals.NotDeclared
 refusal_of WrongKind = Refusals.WrongKind
 refusal_of NotListed = Refusals.NotOnTicket
 
+-- a fault names fields up to 255, far more than a line has; a field past them is named as the last
+abbrev pub nameable : ℕ → ℕ
+nameable field = cond (nat_le field 255) field 255
+
 abbrev pub misfit_fault : ℕ → Option Misfit → Option Fault
 misfit_fault line None = None
-misfit_fault line (Some m) = Some (fault_of (refusal_of m.reason) line m.field)
+misfit_fault line (Some m) = Some (fault_of (refusal_of m.reason) line (nameable m.field))
 
 -- a number out of its range is found before all else
 abbrev pub out_of_range : List Field → Option Misfit

@@ -1,6 +1,6 @@
 //! The checks of the calls, each before the next, and what they refuse by.
 ghost use Rattle.std.specs.Prelude.{◌≡◌, ◌+◌, List, ◌==◌};
-ghost use Rattle.history.specs.Denials.{refuse_if, or_else, is_cell, unranged_fault, barred_fault, refusal_of, misfit_fault, declare_denial, state_denial, ask_denial};
+ghost use Rattle.history.specs.Denials.{refuse_if, or_else, is_cell, unranged_fault, barred_fault, refusal_of, nameable, misfit_fault, declare_denial, state_denial, ask_denial};
 ghost use Rattle.engine.specs.declared.field.Field.{Field};
 ghost use Rattle.engine.specs.Fits.{first_misfit};
 ghost use Rattle.sheet.specs.Misfits.{is_unranged, late_denial};
@@ -82,12 +82,19 @@ fn refusal_of(reason: Reason) -> Refusal
     }
 }
 
+// The field as a fault can name it.
+fn nameable(field: usize) -> u8
+    ensures { result ≡ nameable field }
+{
+    if field <= 255 { field as u8 } else { 255 }
+}
+
 /// What is at fault in the fields of a statement.
 pub fn misfit_fault(line: u32, misfit: Option<Misfit>) -> Option<Fault>
     ensures { result ≡ misfit_fault line misfit }
 {
     match misfit {
-        Some(m) => Some(Fault::new(refusal_of(m.reason), line, m.field)),
+        Some(m) => Some(Fault::new(refusal_of(m.reason), line, nameable(m.field))),
         None => None,
     }
 }

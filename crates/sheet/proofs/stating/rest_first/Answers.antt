@@ -7,7 +7,7 @@ pub returns : goal.returns
 returns g c =
     let row = c.args.row.now in
     let n = c.args.n in
-    let rested = c.rest-newest.new.row in
+    let rested = c.rest_newest.new.row in
     let long : length rested ≡ n = omega (arith, length-take-le n row (omega arith)) in
     let top : take n (rested ++ drop n row) ≡ rested = take_at rested (drop n row) n long in
-    record { rested = rw top c.rest-newest.ensures; others = drop_at rested (drop n row) n long }
+    record { rested = rw top c.rest_newest.ensures; others = drop_at rested (drop n row) n long }
