@@ -1,5 +1,5 @@
 //! Kinds of cell in which numbers stand, and how a word reads numbers from a row of them.
-ghost use Rattle.std.specs.Prelude.{◌≡◌, ℕ, Bool, Some, Option, nat_lt};
+ghost use Rattle.std.specs.Prelude.{◌≡◌, ℕ, Bool, true, Some, Option, nat_lt};
 ghost use Rattle.domain.specs.declared.bounds.Number.{Number};
 ghost use Rattle.domain.specs.declared.bounds.NumberTell.{NumberTell};
 ghost use Rattle.domain.specs.declared.mixed.Either.TheVariants.{Right};
@@ -12,7 +12,6 @@ ghost use Rattle.words.specs.CellsLemmas.{numbers};
 
 use domain::{Domain, Either, Group, GroupTell, Mixed, Number, NumberTell};
 use engine::{Field, cell_at};
-use words::cell::{Cell, cell_field};
 
 /// A kind of cell some of which are numbers.
 pub trait Numeric: Domain {
@@ -119,12 +118,25 @@ pub fn three_numbers_at<C: Numeric>(
 }
 
 /// A field that names a cell of the row, counted from 0, which must be a number.
-pub fn number_field<C: Numeric>(number: u8, cell: usize, row: &[C]) -> Field
+pub fn number_field<C: Numeric>(number: usize, cell: usize, row: &[C]) -> Field
     ensures { result ≡ cell_field number (nat_lt cell 99) (of_kind C.Numeric.part) cell row.now }
 {
     match cell_at(row, cell) {
         None => cell_field(number, cell, false, true),
         Some(found) => cell_field(number, cell, true, holds_number(found)),
+    }
+}
+
+// A field that names a cell, counted from 0, which is declared or not, and of the right kind or not.
+fn cell_field(number: usize, cell: usize, declared: bool, suited: bool) -> Field
+    ensures { result ≡ record { number = number; ranged = nat_lt cell 99; declared = declared; suited = suited; listed = true } }
+{
+    Field {
+        number,
+        ranged: cell < 99,
+        declared,
+        suited,
+        listed: true,
     }
 }
 

@@ -5,9 +5,7 @@ ghost use Rattle.bales.specs.Lists.{closed_weights};
 ghost use Rattle.engine.specs.Telling.{named};
 ghost use Rattle.engine.specs.Parts.{operand, first_of, second_of};
 ghost use Rattle.engine.specs.Arity.{all_two};
-ghost use Rattle.engine.specs.Fits.{cell_fields};
-ghost use Rattle.words.specs.Fields.{groupCell};
-ghost use Rattle.amounts.specs.Fields.{number_cell};
+ghost use Rattle.amounts.specs.Fields.{scale_fields};
 ghost use Rattle.amounts.specs.Scales.{between, count_tells, CountHolds, needed, excess, weigh_tells, WeighHolds, narrowed_scales, HoldsScales};
 ghost use Rattle.amounts.specs.Lifting.{narrowing-scales, relation-scales};
 ghost use Rattle.amounts.specs.ScaleLaws.{count-laws, weigh-laws};
@@ -76,7 +74,7 @@ impl Propagator<Cell, ClosedList> for Count {
 
     ghost narrowed = { λ b w. narrowed_scales count_tells w.cell w.number };
 
-    ghost fields = { λ b w. cell_fields (groupCell 3 w.cell ∷ (number_cell second_of 4 w.number ∷ [])) [] };
+    ghost fields = { λ b w. scale_fields w.cell w.number };
 
     ghost narrowing = { λ b w. narrowing-scales count-laws w.cell w.number };
 
@@ -161,7 +159,7 @@ impl Propagator<Cell, ClosedList> for Weigh {
 
     ghost narrowed = { λ b w. narrowed_scales (weigh_tells (closed_weights b)) w.cell w.number };
 
-    ghost fields = { λ b w. cell_fields (groupCell 3 w.cell ∷ (number_cell second_of 4 w.number ∷ [])) [] };
+    ghost fields = { λ b w. scale_fields w.cell w.number };
 
     ghost narrowing = { λ b w. narrowing-scales (weigh-laws (closed_weights b)) w.cell w.number };
 

@@ -10,8 +10,8 @@ use Rattle.engine.specs.Fits.{cell_fields}
 use Rattle.statements.specs.declared.statement.Statement.{Statement}
 use Rattle.statements.specs.declared.statement.Statement.TheVariants.{Sub, Same, Apart, Union, Both, Less, Has, Lacks, Count, Weigh, Sum, Most}
 use Rattle.words.specs.Cells.{Cell, Value, cell_meet}
-use Rattle.words.specs.Fields.{groupCell, place_field}
-use Rattle.amounts.specs.Fields.{number_cell}
+use Rattle.words.specs.Fields.{group_field, group_fields, place_field}
+use Rattle.amounts.specs.Fields.{number_cell, scale_fields}
 use Rattle.words.specs.Rows.{narrowed_one, HoldsOne, narrowed_two, HoldsTwo, narrowed_three, HoldsThree}
 use Rattle.words.specs.Pairs.{sub_tells, SubHolds, same_tells, SameHolds, apart_tells, ApartHolds}
 use Rattle.words.specs.Triples.{union_tells, UnionHolds, both_tells, BothHold, less_tells, LessHolds}
@@ -66,15 +66,15 @@ narrowing_of b (Most w) = two_narrowed cell_meet second_of second_of Right Right
 
 -- its fields as they stand to a row
 abbrev pub fields_of : ClosedList → Statement → List Cell → List Field
-fields_of b (Sub w) = cell_fields (groupCell 3 w.first ∷ (groupCell 4 w.second ∷ [])) []
-fields_of b (Same w) = cell_fields (groupCell 3 w.first ∷ (groupCell 4 w.second ∷ [])) []
-fields_of b (Apart w) = cell_fields (groupCell 3 w.first ∷ (groupCell 4 w.second ∷ [])) []
-fields_of b (Union w) = cell_fields (groupCell 3 w.first ∷ (groupCell 4 w.second ∷ (groupCell 5 w.third ∷ []))) []
-fields_of b (Both w) = cell_fields (groupCell 3 w.first ∷ (groupCell 4 w.second ∷ (groupCell 5 w.third ∷ []))) []
-fields_of b (Less w) = cell_fields (groupCell 3 w.first ∷ (groupCell 4 w.second ∷ (groupCell 5 w.third ∷ []))) []
-fields_of b (Has w) = cell_fields (groupCell 3 w.cell ∷ []) (place_field 4 w.place b ∷ [])
-fields_of b (Lacks w) = cell_fields (groupCell 3 w.cell ∷ []) (place_field 4 w.place b ∷ [])
-fields_of b (Count w) = cell_fields (groupCell 3 w.cell ∷ (number_cell second_of 4 w.number ∷ [])) []
-fields_of b (Weigh w) = cell_fields (groupCell 3 w.cell ∷ (number_cell second_of 4 w.number ∷ [])) []
+fields_of b (Sub w) = group_fields 3 (w.first ∷ (w.second ∷ []))
+fields_of b (Same w) = group_fields 3 (w.first ∷ (w.second ∷ []))
+fields_of b (Apart w) = group_fields 3 (w.first ∷ (w.second ∷ []))
+fields_of b (Union w) = group_fields 3 (w.first ∷ (w.second ∷ (w.third ∷ [])))
+fields_of b (Both w) = group_fields 3 (w.first ∷ (w.second ∷ (w.third ∷ [])))
+fields_of b (Less w) = group_fields 3 (w.first ∷ (w.second ∷ (w.third ∷ [])))
+fields_of b (Has w) = λ P. group_field 3 w.cell P ∷ (place_field 4 w.place b ∷ [])
+fields_of b (Lacks w) = λ P. group_field 3 w.cell P ∷ (place_field 4 w.place b ∷ [])
+fields_of b (Count w) = scale_fields w.cell w.number
+fields_of b (Weigh w) = scale_fields w.cell w.number
 fields_of b (Sum w) = cell_fields (number_cell second_of 3 w.first ∷ (number_cell second_of 4 w.second ∷ (number_cell second_of 5 w.third ∷ []))) []
 fields_of b (Most w) = cell_fields (number_cell second_of 3 w.first ∷ (number_cell second_of 4 w.second ∷ [])) []

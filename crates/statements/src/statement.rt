@@ -19,7 +19,7 @@ ghost use Rattle.engine.proofs.Fitting.{cells_fit};
 ghost use Rattle.words.specs.Cells.{CellAllows};
 ghost use Rattle.words.specs.Fields.{place_field};
 ghost use Rattle.amounts.specs.Fields.{number_cell};
-ghost use Rattle.words.specs.Fitting.{one-group-fits, two-groups-fit, three-groups-fit};
+ghost use Rattle.words.specs.Fitting.{fit-laws};
 ghost use Rattle.amounts.specs.Fitting.{numbers-last, group-and-number-fit};
 
 use amounts::numbers::{Most, Sum};
@@ -91,14 +91,14 @@ impl Propagator<Cell, ClosedList> for Statement {
 
     ghost fitting = { λ b.
         elim [
-          | Sub w ↦ two-groups-fit w.first w.second
-          | Same w ↦ two-groups-fit w.first w.second
-          | Apart w ↦ two-groups-fit w.first w.second
-          | Union w ↦ three-groups-fit w.first w.second w.third
-          | Both w ↦ three-groups-fit w.first w.second w.third
-          | Less w ↦ three-groups-fit w.first w.second w.third
-          | Has w ↦ one-group-fits (place_field 4 w.place b ∷ []) 3 w.cell
-          | Lacks w ↦ one-group-fits (place_field 4 w.place b ∷ []) 3 w.cell
+          | Sub w ↦ fit-laws [] 3 (w.first ∷ (w.second ∷ []))
+          | Same w ↦ fit-laws [] 3 (w.first ∷ (w.second ∷ []))
+          | Apart w ↦ fit-laws [] 3 (w.first ∷ (w.second ∷ []))
+          | Union w ↦ fit-laws [] 3 (w.first ∷ (w.second ∷ (w.third ∷ [])))
+          | Both w ↦ fit-laws [] 3 (w.first ∷ (w.second ∷ (w.third ∷ [])))
+          | Less w ↦ fit-laws [] 3 (w.first ∷ (w.second ∷ (w.third ∷ [])))
+          | Has w ↦ fit-laws (place_field 4 w.place b ∷ []) 3 (w.cell ∷ [])
+          | Lacks w ↦ fit-laws (place_field 4 w.place b ∷ []) 3 (w.cell ∷ [])
           | Count w ↦ group-and-number-fit w.cell w.number
           | Weigh w ↦ group-and-number-fit w.cell w.number
           | Sum w ↦ cells_fit CellAllows (number_cell second_of 3 w.first ∷ (number_cell second_of 4 w.second ∷ (number_cell second_of 5 w.third ∷ []))) [] (numbers-last, (numbers-last, (numbers-last, tt)))

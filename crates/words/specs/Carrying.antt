@@ -104,7 +104,7 @@ module _ (w : Word) (g : Good w) where
 -- ---- groups
 
 -- a single group is its value
-single-ends : (x : Group) (v : BaleSet) → GroupAllows x v → group_height x ≡ 0 → (sure x ≡ v.places.bits) × (possible x ≡ v.places.bits)
+pub single-ends : (x : Group) (v : BaleSet) → GroupAllows x v → group_height x ≡ 0 → (sure x ≡ v.places.bits) × (possible x ≡ v.places.bits)
 single-ends x v a h =
     let one = group-heights.single-only x h in (
       ap (λ (b : BaleSet). b.places.bits) (one (bales (sure x)) v ((λ k t. t), sound x) a),

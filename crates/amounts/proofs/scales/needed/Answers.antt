@@ -13,4 +13,4 @@ found : (ws : List ℕ) (a : Group) (low most loose set : ℕ) → set ≡ sieve
 found ws a low most loose set e f g = e ∙ ap₂ (λ m s. sieve (λ w. ltb m (low + w)) ws s) f g ∙ missed-above ws low (possible a) (sure a)
 
 pub returns : goal.returns
-returns c = found (closed_weights c.args.list.now) c.args.a c.args.low c.args.most c.undecided.result.bits c.too-heavy.result.bits c.too-heavy.ensures c.requires c.undecided.ensures
+returns c = found (closed_weights c.args.list.now) c.args.a c.args.low c.args.most c.undecided.result.bits c.too_heavy.result.bits c.too_heavy.ensures c.requires c.undecided.ensures

@@ -9,4 +9,4 @@ pub returns : goal.returns
 returns c =
     let ws = closed_weights c.args.list.now in
     let f : ℕ → Bool = λ w. ltb c.args.high (c.args.sure + w) in
-    c.too-heavy.ensures ∙ ap (λ t. sieve f t c.args.set.bits) c.table.ensures ∙ sieve-padded f ws (64 - length ws) c.args.set.bits
+    c.too_heavy.ensures ∙ ap (λ t. sieve f t c.args.set.bits) c.table.ensures ∙ sieve-padded f ws (64 - length ws) c.args.set.bits
