@@ -1,5 +1,5 @@
 -- A fit lasts: fields that name a group and numbers of a row stay free of fault.
-use Rattle.std.specs.Prelude.{◌≡◌, ℕ, ◌<◌, Bool, true, false, ◌||◌, List, [], ◌∷◌, ◌++◌, length, None, ◌==◌, refl}
+use Rattle.std.specs.Prelude.{◌≡◌, ℕ, ◌<◌, true, false, ◌||◌, List, [], ◌∷◌, ◌++◌, length, None, ◌==◌, refl}
 use Rattle.engine.specs.declared.field.Field.{Field}
 use Rattle.engine.specs.Telling.{named}
 use Rattle.engine.specs.Parts.{of_kind, second_of}

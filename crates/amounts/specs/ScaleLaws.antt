@@ -1,5 +1,5 @@
 -- The laws of count and weigh on their group and their number.
-use Rattle.std.specs.Prelude.{◌≡◌, ℕ, ◌+◌, ◌<◌, ◌≤◌, Bool, true, false, cond, T, List, ◌==◌, slice_index, refl}
+use Rattle.std.specs.Prelude.{◌≡◌, ℕ, ◌+◌, ◌<◌, ◌≤◌, true, false, cond, T, List, ◌==◌, slice_index, refl}
 use Rattle.std.proofs.Common.{sym, ap, subst, arith, eqb-true, eq-eqb}
 use Rattle.places.specs.Members.{has, none, count, Sub}
 use Rattle.places.specs.Sums.{weigh}
@@ -11,7 +11,6 @@ use Rattle.domain.specs.declared.bounds.BaleSet.{BaleSet}
 use Rattle.domain.specs.declared.bounds.Group.{Group}
 use Rattle.domain.specs.declared.bounds.GroupTell.{GroupTell}
 use Rattle.domain.specs.declared.bounds.Number.{Number}
-use Rattle.domain.specs.declared.bounds.NumberTell.{NumberTell}
 use Rattle.domain.specs.Laws.{Within}
 use Rattle.domain.specs.Groups.{GroupAllows, group_height, GroupPasses}
 use Rattle.domain.specs.Numbers.{NumberAllows, number_height, NumberPasses}

@@ -1,5 +1,5 @@
 -- What a sheet's calls ensure are the answers that they should give, and the standing bounds are held.
-use Rattle.std.proofs.Common.{◌≡◌, ℕ, ◌-◌, ◌⊎◌, List, [], ◌∷◌, ◌++◌, length, take, IfOk, Some, None, Ok, Err, Result, sym, refl, ap, ◌∙◌, subst, inl, inr}
+use Rattle.std.proofs.Common.{◌≡◌, ℕ, List, length, take, IfOk, Some, None, Ok, Err, Result, sym, refl, ap, ◌∙◌, subst, inl, inr}
 use Rattle.fault.specs.declared.Fault.{Fault}
 use Rattle.domain.specs.declared.kind.Domain as Domain
 use Rattle.domain.specs.declared.kind.Halves as Halves

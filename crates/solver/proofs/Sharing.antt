@@ -1,7 +1,7 @@
 -- The sets of rules that name a cell, and of those that share a cell with a rule.
-use Rattle.std.proofs.Common.{◌≡◌, ℕ, ◌+◌, ◌^◌, ◌<◌, ◌≤◌, Bool, true, false, ◌||◌, T, eqb, ◌≢◌, List, length, set, Some, None, sym, refl, ap, ◌∙◌, subst, ⊎_elim, arith, below_more, eq-eqb, ne_eqb}
+use Rattle.std.proofs.Common.{◌≡◌, ℕ, ◌+◌, ◌^◌, ◌<◌, ◌≤◌, Bool, true, false, ◌||◌, T, eqb, ◌≢◌, List, length, set, Some, sym, refl, ap, ◌∙◌, subst, ⊎_elim, arith, below_more, eq-eqb, ne_eqb}
 use lib.Bits.{bit_or}
-use Rattle.std.proofs.lemmas.Bool.{cases_lt, cases_eq}
+use Rattle.std.proofs.lemmas.Bool.{cases_lt}
 use Rattle.std.proofs.lemmas.List.{get_or-set_same, get_or-set_other}
 use Rattle.places.specs.Members.{has}
 use Rattle.places.specs.declared.PlaceSet.{PlaceSet}

@@ -1,16 +1,15 @@
 -- The steps of the search, as its code takes them.
-use Rattle.std.proofs.Common.{◌≡◌, ℕ, zero, suc, ◌+◌, ◌<◌, ◌≤◌, Bool, true, false, cond, not, ◌⊎◌, List, [], ◌∷◌, length, Some, sym, refl, ap, ◌∙◌, subst, inl, inr, ⊎_elim, arith}
-use Rattle.std.proofs.lemmas.Bool.{cases_eq}
+use Rattle.std.proofs.Common.{◌≡◌, ℕ, zero, suc, ◌+◌, ◌<◌, true, false, ◌⊎◌, List, [], ◌∷◌, length, sym, refl, ap, ◌∙◌, subst, inl, inr, arith}
 use Rattle.domain.specs.declared.kind.Domain as Domain
 use Rattle.domain.specs.declared.kind.Halves as Halves
 use Rattle.domain.specs.Laws.{BoundsLaws}
 use Rattle.engine.specs.declared.propagator.Propagator as Propagator
-use Rattle.engine.specs.Rows.{item, Agree}
+use Rattle.engine.specs.Rows.{item}
 use Rattle.engine.specs.Laws.{NarrowingLaws}
 use Rattle.engine.proofs.Rows.{inside-self, rows_same}
 use Rattle.engine.proofs.Fitting.{rests-agreed}
 use Rattle.meaning.specs.Resting.{Rests, Widest, NoneRests}
-use Rattle.meaning.specs.Search.{change, FirstOpen, Ending, found, none, spent, deep, Stage, node, half, Seek, all-single, in-first, in-second, turn-back, child}
+use Rattle.meaning.specs.Search.{change, FirstOpen, Ending, found, none, node, half, Seek, all-single, in-first, in-second, turn-back, child}
 use Rattle.solver.specs.Waking.{named_by, Namers}
 use Rattle.solver.specs.Fixpoint.{OthersRest}
 use Rattle.solver.specs.Endings.{ending}

@@ -1,5 +1,5 @@
 -- What the answers of a search stand for.
-use Rattle.std.specs.Prelude.{◌≡◌, ℕ, ◌≤◌, ◌⊎◌, List, ◌≢◌}
+use Rattle.std.specs.Prelude.{ℕ, ◌≤◌, ◌⊎◌, List, ◌≢◌}
 use Rattle.domain.specs.declared.kind.Domain as Domain
 use Rattle.domain.specs.declared.kind.Halves as Halves
 use Rattle.engine.specs.declared.propagator.Propagator as Propagator

@@ -1,5 +1,5 @@
 -- Each turn plays one call more.
-use Rattle.std.proofs.Common.{◌≡◌, List, [], ◌∷◌, ◌++◌, map, length, take, vec_items, sym, refl, ap, ◌∙◌, subst, arith, take_all, rules}
+use Rattle.std.proofs.Common.{◌≡◌, [], ◌∷◌, ◌++◌, map, length, take, vec_items, sym, ap, subst, arith, take_all, rules}
 use Rattle.engine.proofs.Rows.{item-here, item-within}
 use Rattle.meaning.proofs.Laws.{LawfulHalves}
 use Rattle.history.specs.Told.{fresh}

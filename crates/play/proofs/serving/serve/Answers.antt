@@ -1,5 +1,4 @@
 -- Each call is served as the sheet's own call ensures.
-use Rattle.std.proofs.Common.{List}
 use Rattle.meaning.proofs.Laws.{LawfulHalves}
 use Rattle.sheet.specs.Sheets.{told_of, bounds_of}
 use Rattle.play.specs.Plays.{answer_of}

@@ -1,5 +1,5 @@
 -- Each turn fires the lowest rule that waits.
-use Rattle.std.proofs.Common.{◌≡◌, ℕ, ◌+◌, ◌-◌, ◌*◌, ◌^◌, ◌<◌, true, false, List, length, Some, sym, refl, ap, ◌∙◌, subst, ⊎_elim, arith, rules}
+use Rattle.std.proofs.Common.{◌≡◌, ℕ, ◌-◌, ◌^◌, ◌<◌, length, Some, sym, ap, ◌∙◌, subst, ⊎_elim, arith, rules}
 use lib.Bits.{bit_or}
 use Rattle.places.specs.Members.{minus}
 use Rattle.places.specs.Lowest.{First, lowest}

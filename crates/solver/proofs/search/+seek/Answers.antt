@@ -1,16 +1,15 @@
 -- The search takes a half to rest, and then tries the halves of a cell in turn.
-use Rattle.std.proofs.Common.{◌≡◌, ℕ, ◌+◌, ◌-◌, ◌*◌, ◌<◌, ◌≤◌, true, false, ◌⊎◌, length, take, drop, sym, refl, ap, ◌∙◌, subst, inl, inr, ⊎_elim, arith, rules}
+use Rattle.std.proofs.Common.{◌≡◌, ◌+◌, ◌-◌, ◌≤◌, length, take, sym, ap, ◌∙◌, subst, inl, inr, arith, rules}
 use borrow.Rule.Slice.PartMut.{put_mid}
 use denote.Enum.Bare.{differs_true, differs_false}
 use Rattle.solver.specs.contracts.search.End.{the_type}
 use Rattle.std.proofs.lemmas.List.{length-take-le}
-use Rattle.meaning.specs.Resting.{Widest, NoneRests}
-use Rattle.meaning.specs.Search.{FirstOpen, change, Seek, half, all-single, no-cut-left, no-row-left, turn-back, child}
-use Rattle.solver.specs.Fixpoint.{OfRules, OthersRest, Fixpoint}
-use Rattle.solver.specs.Endings.{ending, Sought}
+use Rattle.meaning.specs.Resting.{Widest}
+use Rattle.meaning.specs.Search.{change, all-single, no-cut-left, no-row-left, turn-back, child}
+use Rattle.solver.specs.Fixpoint.{OfRules, OthersRest}
 use Rattle.solver.proofs.Opening.{open-within}
 use Rattle.solver.proofs.Sharing.{namer-within}
-use Rattle.solver.proofs.Rows.{room-two, room-up, room-one, above-first, above-back, front-stays, above-long, lent-long, lent_same, room-part}
+use Rattle.solver.proofs.Rows.{room-two, room-one, above-first, above-back, front-stays, above-long, lent-long, lent_same, room-part}
 use Rattle.solver.proofs.Steps.{cut-waits, of-half, step-first, step-second}
 use Rattle.solver.proofs.search.+seek.Goals as goal
 

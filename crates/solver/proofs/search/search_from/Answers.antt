@@ -1,5 +1,5 @@
 -- The root rests already, so that no rule waits there.
-use Rattle.std.proofs.Common.{◌≡◌, ℕ, ◌≤◌, List, length, take, sym, ap, ◌∙◌, subst, arith}
+use Rattle.std.proofs.Common.{◌≡◌, ℕ, length, take, sym, ◌∙◌, subst, arith}
 use Rattle.meaning.specs.Resting.{Rests}
 use Rattle.meaning.specs.Search.{Searched}
 use Rattle.solver.specs.Fixpoint.{OfRules}

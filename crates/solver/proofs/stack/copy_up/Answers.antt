@@ -1,5 +1,5 @@
 -- Both rows, cell by cell.
-use Rattle.std.proofs.Common.{◌≡◌, ℕ, ◌+◌, ◌<◌, length, get_or, sym, ap, ◌∙◌, subst, arith, rules}
+use Rattle.std.proofs.Common.{get_or, ap, ◌∙◌, arith}
 use Rattle.solver.proofs.Rows.{part_same, take_same}
 use Rattle.solver.proofs.stack.copy_up.Goals as goal
 

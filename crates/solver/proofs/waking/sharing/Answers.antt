@@ -1,6 +1,5 @@
 -- Each turn puts the rules in that name a cell which this rule names.
-use Rattle.std.proofs.Common.{◌≡◌, ℕ, ◌+◌, sym, ap, ◌∙◌, subst}
-use lib.Bits.{bit_or}
+use Rattle.std.proofs.Common.{ℕ, ◌+◌, sym, ap, ◌∙◌, subst}
 use Rattle.solver.specs.Waking.{Sharers}
 use Rattle.solver.proofs.Sharing.{sharers-none, sharers-more, sharers-same}
 use Rattle.solver.proofs.waking.sharing.Goals as goal

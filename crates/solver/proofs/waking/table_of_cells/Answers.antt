@@ -1,5 +1,5 @@
 -- The set found for a cell stands at its place, and the others stay.
-use Rattle.std.proofs.Common.{◌≡◌, ◌<◌, ◌≤◌, length, ◌∙◌, arith, length-set}
+use Rattle.std.proofs.Common.{◌<◌, ◌≤◌, ◌∙◌, arith, length-set}
 use Rattle.solver.proofs.Sharing.{table_more}
 use Rattle.solver.specs.Waking.{Namers}
 use Rattle.solver.proofs.waking.table_of_cells.Goals as goal

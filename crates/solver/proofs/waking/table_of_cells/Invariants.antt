@@ -1,5 +1,5 @@
 -- The table is right for the cells seen so far.
-use Rattle.std.proofs.Common.{◌≡◌, ℕ, ◌<◌, length}
+use Rattle.std.proofs.Common.{◌≡◌, length}
 use Rattle.solver.specs.Waking.{CellTable}
 use Rattle.solver.proofs.waking.table_of_cells.Given as goal
 

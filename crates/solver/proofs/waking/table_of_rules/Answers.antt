@@ -1,5 +1,5 @@
 -- The set found for a rule stands at its place, and the others stay.
-use Rattle.std.proofs.Common.{◌≡◌, length, Some, sym, ◌∙◌, subst, arith, length-set}
+use Rattle.std.proofs.Common.{◌≡◌, Some, sym, ◌∙◌, subst, arith, length-set}
 use Rattle.domain.specs.Options.{some_is}
 use Rattle.engine.specs.Rows.{item}
 use Rattle.engine.proofs.Rows.{item-here, item-within}

@@ -1,5 +1,5 @@
 -- The worked cases, computed.
-use Rattle.std.proofs.Common.{◌≡◌, List, [], ◌∷◌, Some, sym, refl, ap, subst, ap₂, lit≤}
+use Rattle.std.proofs.Common.{◌≡◌, [], ◌∷◌, Some, sym, refl, ap, subst, ap₂, lit≤}
 use lib.Count.{ones}
 use Rattle.domain.specs.declared.mixed.Mixed.TheVariants.{First, Second}
 use Rattle.domain.specs.declared.bounds.Group.{Group}

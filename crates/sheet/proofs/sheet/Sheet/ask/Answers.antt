@@ -1,5 +1,5 @@
 -- A cell that no check refuses stands in the row.
-use Rattle.std.proofs.Common.{◌≡◌, ◌-◌, length, get_or, None, vec_items, sym, rules}
+use Rattle.std.proofs.Common.{◌≡◌, ◌-◌, length, get_or, None, vec_items, rules}
 use Rattle.engine.proofs.Rows.{item-here}
 use Rattle.history.specs.Denials.{ask_denial}
 use Rattle.history.proofs.Checks.{ask-passed}

@@ -1,5 +1,5 @@
 -- What a trial in the spare row leaves: the statement and its bounds, or all as it was.
-use Rattle.std.proofs.Common.{◌≡◌, true, false, [], ◌∷◌, ◌++◌, length, take, drop, vec_items, sym, refl, ap, ◌∙◌, subst, arith, rules}
+use Rattle.std.proofs.Common.{◌≡◌, true, false, [], ◌∷◌, ◌++◌, length, take, drop, vec_items, sym, ap, ◌∙◌, subst, arith, rules}
 use Rattle.std.proofs.lemmas.List.{length-take-le}
 use Rattle.meaning.specs.Resting.{Widest}
 use Rattle.rules.specs.Listed.{listed, but_newest}
