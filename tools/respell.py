@@ -12,10 +12,15 @@ import glob
 import re
 import sys
 
-# Names that the rule would not spell well.
+# Names that the rule would not spell well, and names that it does not reach: of records, and of a variable.
 CHOSEN = {
     "decT": "dec-T",
-    "thenO": "then_some",
+    "thenO": "option_then",
+    "Lists-round": "ListsRound",
+    "Numbers-round": "NumbersRound",
+    "Rows-round": "RowsRound",
+    "Round-trips": "RoundTrips",
+    "cutLimit": "cut_limit",
 }
 
 # Names that have another meaning elsewhere, by the folder where they are respelled: constructors, and a lemma whose name a definition takes.
@@ -83,7 +88,7 @@ def table():
     declared = list(signatures())
     facts = {n for n, inner, t in declared if not inner and re.search(r"(^: |→ )Type (0|\{)", t) and re.search(r"Type 0$", t) and n[0].islower() and re.search(r"[a-z0-9][A-Z]", n)}
     local = {n for more in WITHIN.values() for n in more}
-    return {n: respelled(n, facts) for n, _, _ in declared if n not in local and respelled(n, facts) != n}
+    return CHOSEN | {n: respelled(n, facts) for n, _, _ in declared if n not in local and respelled(n, facts) != n}
 
 
 def turn(text, names, comments):

@@ -1,7 +1,7 @@
 //! A bale: its place on the ticket and its weight, each with its range in its type.
 
 ghost use Rattle.std.specs.Prelude.{◌≡◌, ◌≤◌};
-ghost use Rattle.std.proofs.Common.{rules, arith};
+ghost use Rattle.std.proofs.Common.{lit≤};
 
 use super::ranged::Ranged;
 
@@ -28,7 +28,7 @@ impl Ranged for Place {
 
     ghost figure = { λ p. p.number };
 
-    ghost small = { first_of (Prim.search rules, Prim.grind (arith, Self.row.coded.inj)) };
+    ghost small = { lit≤ tt };
 
     fn from_number(number: u32) -> Option<Place> {
         if 1 <= number && number <= 99 {
@@ -48,7 +48,7 @@ impl Ranged for Weight {
 
     ghost figure = { λ w. w.pounds };
 
-    ghost small = { first_of (Prim.search rules, Prim.grind (arith, Self.row.coded.inj)) };
+    ghost small = { lit≤ tt };
 
     fn from_number(number: u32) -> Option<Weight> {
         if 1 <= number && number <= 1000 {

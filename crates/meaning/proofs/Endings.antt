@@ -13,9 +13,9 @@ use Rattle.meaning.proofs.Resting.{widest-once, some_or_none}
 use Rattle.meaning.proofs.Searches.{clash, limited}
 
 module _ {C V T B R : Type 0} {kind : Domain.Ghosts C V T} {halves : Halves.Ghosts C V T} {rule : Propagator.Ghosts R C B V T} {book : B} (l : LawfulHalves kind halves rule book)
-    (rules : List R) (cutLimit row_limit : ℕ) where
+    (rules : List R) (cut_limit row_limit : ℕ) where
   abbrev From : Stage → ℕ → ℕ → List C → Ending C → ℕ → Type 0
-  From = Seek kind halves rule book rules cutLimit row_limit
+  From = Seek kind halves rule book rules cut_limit row_limit
 
   -- ---- one way: what a search from a stage must be, by its row
 
@@ -26,14 +26,14 @@ module _ {C V T B R : Type 0} {kind : Domain.Ghosts C V T} {halves : Halves.Ghos
   at-single s (in-first i {Q = Q} f a b t n) = absurd (open-not-single kind.height Q i f s)
   at-single s (in-second i {Q = Q} f a b t u) = absurd (open-not-single kind.height Q i f s)
 
-  at-spent : {k d c : ℕ} {Q : List C} {e : Ending C} (i : ℕ) → FirstOpen kind.height Q i → k ≡ cutLimit → From node k d Q e c → (spent ≡ e) × (k ≡ c)
+  at-spent : {k d c : ℕ} {Q : List C} {e : Ending C} (i : ℕ) → FirstOpen kind.height Q i → k ≡ cut_limit → From node k d Q e c → (spent ≡ e) × (k ≡ c)
   at-spent i o x (all-single {Q = Q} t) = absurd (open-not-single kind.height Q i o t)
   at-spent i o x (no-cut-left j f g) = (refl, refl)
   at-spent i o x (no-row-left j f a g) = absurd (omega arith)
   at-spent i o x (in-first j f a b t n) = absurd (omega arith)
   at-spent i o x (in-second j f a b t u) = absurd (omega arith)
 
-  at-deep : {k d c : ℕ} {Q : List C} {e : Ending C} (i : ℕ) → FirstOpen kind.height Q i → k < cutLimit → d ≡ row_limit → From node k d Q e c → (deep ≡ e) × (k ≡ c)
+  at-deep : {k d c : ℕ} {Q : List C} {e : Ending C} (i : ℕ) → FirstOpen kind.height Q i → k < cut_limit → d ≡ row_limit → From node k d Q e c → (deep ≡ e) × (k ≡ c)
   at-deep i o x y (all-single {Q = Q} t) = absurd (open-not-single kind.height Q i o t)
   at-deep i o x y (no-cut-left j f g) = absurd (omega arith)
   at-deep i o x y (no-row-left j f a g) = (refl, refl)
@@ -47,7 +47,7 @@ module _ {C V T B R : Type 0} {kind : Domain.Ghosts C V T} {halves : Halves.Ghos
     one : From half (k + 1) (d + 1) (change halves.first Q i) e₁ m
     two : ((e₁ ≡ none → ⊥) × (e₁ ≡ e) × (m ≡ c)) ⊎ ((e₁ ≡ none) × From half m (d + 1) (change halves.second Q i) e c)
 
-  at_cut : {k d c : ℕ} {Q : List C} {e : Ending C} (i : ℕ) → FirstOpen kind.height Q i → k < cutLimit → d < row_limit → From node k d Q e c → Cut k d Q i e c
+  at_cut : {k d c : ℕ} {Q : List C} {e : Ending C} (i : ℕ) → FirstOpen kind.height Q i → k < cut_limit → d < row_limit → From node k d Q e c → Cut k d Q i e c
   at_cut i o x y (all-single {Q = Q} t) = absurd (open-not-single kind.height Q i o t)
   at_cut i o x y (no-cut-left j f g) = absurd (omega arith)
   at_cut i o x y (no-row-left j f a g) = absurd (omega arith)
@@ -94,17 +94,17 @@ module _ {C V T B R : Type 0} {kind : Domain.Ghosts C V T} {halves : Halves.Ghos
 
   module _ (k d : ℕ) (Q : List C) (i : ℕ) (o : FirstOpen kind.height Q i) where
     -- a cut ends if its halves do
-    cut-ends : k < cutLimit → d < row_limit → Ended half (k + 1) (d + 1) (change halves.first Q i) →
-        ((m : ℕ) → m ≤ cutLimit → Ended half m (d + 1) (change halves.second Q i)) → Ended node k d Q
+    cut-ends : k < cut_limit → d < row_limit → Ended half (k + 1) (d + 1) (change halves.first Q i) →
+        ((m : ℕ) → m ≤ cut_limit → Ended half m (d + 1) (change halves.second Q i)) → Ended node k d Q
     cut-ends a b x f = by x.0 x.1 x.2
       where
         by : (e : Ending C) (m : ℕ) → From half (k + 1) (d + 1) (change halves.first Q i) e m → Ended node k d Q
         by (found S) m t = (found S, m, in-first i o a b t (λ e. clash (cc)))
-        by none m t = let y = f m (limited l rules cutLimit row_limit t (omega arith)) in (y.0, y.1, in-second i o a b t y.2)
+        by none m t = let y = f m (limited l rules cut_limit row_limit t (omega arith)) in (y.0, y.1, in-second i o a b t y.2)
         by spent m t = (spent, m, in-first i o a b t (λ e. clash (cc)))
         by deep m t = (deep, m, in-first i o a b t (λ e. clash (cc)))
 
-    open-ends : k ≤ cutLimit → d ≤ row_limit → (k < cutLimit → d < row_limit → Ended node k d Q) → Ended node k d Q
+    open-ends : k ≤ cut_limit → d ≤ row_limit → (k < cut_limit → d < row_limit → Ended node k d Q) → Ended node k d Q
     open-ends a b f = elim (eq-or-lt_of_le a) [
       | inl e ↦ (spent, k, no-cut-left i o e)
       | inr x ↦ elim (eq-or-lt_of_le b) [ inl e ↦ (deep, k, no-row-left i o x e) | inr y ↦ f x y ]
@@ -119,7 +119,7 @@ module _ {C V T B R : Type 0} {kind : Domain.Ghosts C V T} {halves : Halves.Ghos
   ]
 
   -- n is more than the row's height
-  node-ends : (n : ℕ) (k d : ℕ) (Q : List C) → total kind.height Q < n → k ≤ cutLimit → d ≤ row_limit → Ended node k d Q
+  node-ends : (n : ℕ) (k d : ℕ) (Q : List C) → total kind.height Q < n → k ≤ cut_limit → d ≤ row_limit → Ended node k d Q
   node-ends zero k d Q h a b = absurd (omega arith)
   node-ends (suc n) k d Q h a b = elim (single-or-open kind.height Q) [
     | inl s ↦ (found Q, k, all-single s)

@@ -18,9 +18,9 @@ pub clash : {X : Type 0} → ◌≡◌ {A = ℕ} 0 1 → X
 clash e = absurd (omega arith)
 
 module _ {C V T B R : Type 0} {kind : Domain.Ghosts C V T} {halves : Halves.Ghosts C V T} {rule : Propagator.Ghosts R C B V T} {book : B} (l : LawfulHalves kind halves rule book)
-    (rules : List R) (cutLimit row_limit : ℕ) where
+    (rules : List R) (cut_limit row_limit : ℕ) where
   abbrev From : Stage → ℕ → ℕ → List C → Ending C → ℕ → Type 0
-  From = Seek kind halves rule book rules cutLimit row_limit
+  From = Seek kind halves rule book rules cut_limit row_limit
 
   -- ---- how many cuts
 
@@ -41,7 +41,7 @@ module _ {C V T B R : Type 0} {kind : Domain.Ghosts C V T} {halves : Halves.Ghos
   pub more-cuts : {s : Stage} {k d c : ℕ} {P : List C} {e : Ending C} → From s k d P e c → k ≤ c
   more-cuts {P = P} t = let q = choices-counted l P in (few-cuts t q.0 q.1).0
 
-  pub limited : {s : Stage} {k d c : ℕ} {P : List C} {e : Ending C} → From s k d P e c → k ≤ cutLimit → c ≤ cutLimit
+  pub limited : {s : Stage} {k d c : ℕ} {P : List C} {e : Ending C} → From s k d P e c → k ≤ cut_limit → c ≤ cut_limit
   limited (all-single s) h = h
   limited (no-cut-left i f g) h = h
   limited (no-row-left i f a g) h = h
@@ -50,7 +50,7 @@ module _ {C V T B R : Type 0} {kind : Domain.Ghosts C V T} {halves : Halves.Ghos
   limited (turn-back n) h = h
   limited (child w t) h = limited t h
 
-  pub spent-at : {s : Stage} {k d c : ℕ} {P : List C} {e : Ending C} → From s k d P e c → e ≡ spent → c ≡ cutLimit
+  pub spent-at : {s : Stage} {k d c : ℕ} {P : List C} {e : Ending C} → From s k d P e c → e ≡ spent → c ≡ cut_limit
   spent-at (all-single s) e = clash (cc)
   spent-at (no-cut-left i f g) e = g
   spent-at (no-row-left i f a g) e = clash (cc)
@@ -59,7 +59,7 @@ module _ {C V T B R : Type 0} {kind : Domain.Ghosts C V T} {halves : Halves.Ghos
   spent-at (turn-back n) e = clash (cc)
   spent-at (child w t) e = spent-at t e
 
-  pub deep-at : {s : Stage} {k d c : ℕ} {P : List C} {e : Ending C} → From s k d P e c → e ≡ deep → (c < cutLimit) × (row_limit + k ≤ c + d)
+  pub deep-at : {s : Stage} {k d c : ℕ} {P : List C} {e : Ending C} → From s k d P e c → e ≡ deep → (c < cut_limit) × (row_limit + k ≤ c + d)
   deep-at (all-single s) e = clash (cc)
   deep-at (no-cut-left i f g) e = clash (cc)
   deep-at (no-row-left i f a g) e = (a, omega arith)
@@ -140,7 +140,7 @@ module _ {C V T B R : Type 0} {kind : Domain.Ghosts C V T} {halves : Halves.Ghos
 
   -- ---- the order of the rules
 
-  pub seek-same : (others : List R) → SameRules rules others → {s : Stage} {k d c : ℕ} {P : List C} {e : Ending C} → From s k d P e c → Seek kind halves rule book others cutLimit row_limit s k d P e c
+  pub seek-same : (others : List R) → SameRules rules others → {s : Stage} {k d c : ℕ} {P : List C} {e : Ending C} → From s k d P e c → Seek kind halves rule book others cut_limit row_limit s k d P e c
   seek-same others o (all-single s) = all-single s
   seek-same others o (no-cut-left i f g) = no-cut-left i f g
   seek-same others o (no-row-left i f a g) = no-row-left i f a g

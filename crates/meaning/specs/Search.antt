@@ -30,20 +30,20 @@ pub data Stage : Type 0 where
   node : Stage
   half : Stage
 
-module _ {C V T B R : Type 0} (kind : Domain.Ghosts C V T) (halves : Halves.Ghosts C V T) (rule : Propagator.Ghosts R C B V T) (book : B) (rules : List R) (cutLimit row_limit : ℕ) where
+module _ {C V T B R : Type 0} (kind : Domain.Ghosts C V T) (halves : Halves.Ghosts C V T) (rule : Propagator.Ghosts R C B V T) (book : B) (rules : List R) (cut_limit row_limit : ℕ) where
   -- Seek s k d P e c: from the bounds P at depth d, with k cuts made so far, the search ends in e with c cuts made.
   pub data Seek : Stage → ℕ → ℕ → List C → Ending C → ℕ → Type 0 where
     -- all cells are single: found
     all-single : {k d : ℕ} {Q : List C} → AllSingle kind.height Q → Seek node k d Q (found Q) k
     -- else, where the cuts made are the cut limit: spent
-    no-cut-left : {k d : ℕ} (i : ℕ) {Q : List C} → FirstOpen kind.height Q i → k ≡ cutLimit → Seek node k d Q spent k
+    no-cut-left : {k d : ℕ} (i : ℕ) {Q : List C} → FirstOpen kind.height Q i → k ≡ cut_limit → Seek node k d Q spent k
     -- else, where the depth is the row limit: deep
-    no-row-left : {k d : ℕ} (i : ℕ) {Q : List C} → FirstOpen kind.height Q i → k < cutLimit → d ≡ row_limit → Seek node k d Q deep k
+    no-row-left : {k d : ℕ} (i : ℕ) {Q : List C} → FirstOpen kind.height Q i → k < cut_limit → d ≡ row_limit → Seek node k d Q deep k
     -- else the lowest cell not single is cut, and the first half is searched; what ends there, other than with none, is the end
-    in-first : {k d c : ℕ} (i : ℕ) {Q : List C} {e : Ending C} → FirstOpen kind.height Q i → k < cutLimit → d < row_limit →
+    in-first : {k d c : ℕ} (i : ℕ) {Q : List C} {e : Ending C} → FirstOpen kind.height Q i → k < cut_limit → d < row_limit →
         Seek half (k + 1) (d + 1) (change halves.first Q i) e c → (e ≢ none) → Seek node k d Q e c
     -- and if the first half ends with none, the second is searched
-    in-second : {k d m c : ℕ} (i : ℕ) {Q : List C} {e : Ending C} → FirstOpen kind.height Q i → k < cutLimit → d < row_limit →
+    in-second : {k d m c : ℕ} (i : ℕ) {Q : List C} {e : Ending C} → FirstOpen kind.height Q i → k < cut_limit → d < row_limit →
         Seek half (k + 1) (d + 1) (change halves.first Q i) none m → Seek half m (d + 1) (change halves.second Q i) e c → Seek node k d Q e c
     -- a half within which nothing rests is no child: turn back
     turn-back : {k d : ℕ} {P : List C} → NoneRests kind rule book rules P → Seek half k d P none k

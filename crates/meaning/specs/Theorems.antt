@@ -31,23 +31,23 @@ pub record RestingTheorems {C V T B R : Type 0} (kind : Domain.Ghosts C V T) (ru
 -- Of searches from bounds that rest.
 pub record SearchTheorems {C V T B R : Type 0} (kind : Domain.Ghosts C V T) (halves : Halves.Ghosts C V T) (rule : Propagator.Ghosts R C B V T) (book : B) : Type 0 where
   -- every search ends, in one way and with one number of cuts
-  pub ends : (rules : List R) (cutLimit row_limit : ℕ) (root : List C) → (e : Ending C) × (cuts : ℕ) × Searched kind halves rule book rules cutLimit row_limit root e cuts
-  pub once : (rules : List R) (cutLimit row_limit : ℕ) (root : List C) (e f : Ending C) (cuts cuts' : ℕ) →
-      Searched kind halves rule book rules cutLimit row_limit root e cuts → Searched kind halves rule book rules cutLimit row_limit root f cuts' → (e ≡ f) × (cuts ≡ cuts')
+  pub ends : (rules : List R) (cut_limit row_limit : ℕ) (root : List C) → (e : Ending C) × (cuts : ℕ) × Searched kind halves rule book rules cut_limit row_limit root e cuts
+  pub once : (rules : List R) (cut_limit row_limit : ℕ) (root : List C) (e f : Ending C) (cuts cuts' : ℕ) →
+      Searched kind halves rule book rules cut_limit row_limit root e cuts → Searched kind halves rule book rules cut_limit row_limit root f cuts' → (e ≡ f) × (cuts ≡ cuts')
   -- what is found is the first whole match
-  pub finds : (rules : List R) (cutLimit row_limit cuts : ℕ) (root S : List C) → Rests kind rule book rules root → Searched kind halves rule book rules cutLimit row_limit root (found S) cuts →
+  pub finds : (rules : List R) (cut_limit row_limit cuts : ℕ) (root S : List C) → Rests kind rule book rules root → Searched kind halves rule book rules cut_limit row_limit root (found S) cuts →
       (vs : List V) × Only kind S vs × FirstMatch kind halves rule book rules root vs
   -- neither spent nor deep, it ends with none exactly where there is no whole match
-  pub none-exactly : (rules : List R) (cutLimit row_limit cuts : ℕ) (root : List C) (e : Ending C) → Rests kind rule book rules root → Searched kind halves rule book rules cutLimit row_limit root e cuts →
+  pub none-exactly : (rules : List R) (cut_limit row_limit cuts : ℕ) (root : List C) (e : Ending C) → Rests kind rule book rules root → Searched kind halves rule book rules cut_limit row_limit root e cuts →
       (e ≢ spent) → (e ≢ deep) → (e ≡ none) ↔ ((vs : List V) → WholeMatch kind rule book rules root vs → ⊥)
   -- the choices can be counted, to one number only, and the cuts are fewer
   pub counted : (P : List C) → (n : ℕ) × Choices kind halves P n
   pub counted-once : (P : List C) (m n : ℕ) → Choices kind halves P m → Choices kind halves P n → m ≡ n
-  pub fewer : (rules : List R) (cutLimit row_limit cuts n : ℕ) (root : List C) (e : Ending C) → Searched kind halves rule book rules cutLimit row_limit root e cuts → Choices kind halves root n → cuts < n
+  pub fewer : (rules : List R) (cut_limit row_limit cuts n : ℕ) (root : List C) (e : Ending C) → Searched kind halves rule book rules cut_limit row_limit root e cuts → Choices kind halves root n → cuts < n
   -- never more cuts than the limit; spent at the limit, deep below it
-  pub limited : (rules : List R) (cutLimit row_limit cuts : ℕ) (root : List C) (e : Ending C) → Searched kind halves rule book rules cutLimit row_limit root e cuts → cuts ≤ cutLimit
-  pub spent-at : (rules : List R) (cutLimit row_limit cuts : ℕ) (root : List C) → Searched kind halves rule book rules cutLimit row_limit root spent cuts → cuts ≡ cutLimit
-  pub deep-at : (rules : List R) (cutLimit row_limit cuts : ℕ) (root : List C) → Searched kind halves rule book rules cutLimit row_limit root deep cuts → (cuts < cutLimit) × (row_limit ≤ cuts)
+  pub limited : (rules : List R) (cut_limit row_limit cuts : ℕ) (root : List C) (e : Ending C) → Searched kind halves rule book rules cut_limit row_limit root e cuts → cuts ≤ cut_limit
+  pub spent-at : (rules : List R) (cut_limit row_limit cuts : ℕ) (root : List C) → Searched kind halves rule book rules cut_limit row_limit root spent cuts → cuts ≡ cut_limit
+  pub deep-at : (rules : List R) (cut_limit row_limit cuts : ℕ) (root : List C) → Searched kind halves rule book rules cut_limit row_limit root deep cuts → (cuts < cut_limit) × (row_limit ≤ cuts)
   -- the order of the rules has no part
-  pub any_order : (rules others : List R) → SameRules rules others → (cutLimit row_limit cuts : ℕ) (root : List C) (e : Ending C) →
-      Searched kind halves rule book rules cutLimit row_limit root e cuts → Searched kind halves rule book others cutLimit row_limit root e cuts
+  pub any_order : (rules others : List R) → SameRules rules others → (cut_limit row_limit cuts : ℕ) (root : List C) (e : Ending C) →
+      Searched kind halves rule book rules cut_limit row_limit root e cuts → Searched kind halves rule book others cut_limit row_limit root e cuts

@@ -53,15 +53,15 @@ module _ {C V W B R : Type 0} (kind : Domain.Ghosts C V W) (rule : Propagator.Gh
       (λ j n. sym (item-change f Q i j (λ q. true-false (sym n ∙ ap (rule.names r) q ∙ away))))
       (rests r (item_in rules k r e))
 
-module _ {C V W B R : Type 0} (kind : Domain.Ghosts C V W) (halves : Halves.Ghosts C V W) (rule : Propagator.Ghosts R C B V W) (book : B) (rules : List R) (cutLimit row_limit : ℕ) where
+module _ {C V W B R : Type 0} (kind : Domain.Ghosts C V W) (halves : Halves.Ghosts C V W) (rule : Propagator.Ghosts R C B V W) (book : B) (rules : List R) (cut_limit row_limit : ℕ) where
   abbrev Sought : ℕ → ℕ → List C → Ending C → ℕ → Type 0
-  Sought k d P e c = Seek kind halves rule book rules cutLimit row_limit half k d P e c
+  Sought k d P e c = Seek kind halves rule book rules cut_limit row_limit half k d P e c
 
-  pub step-first : (k d i c : ℕ) (P Q : List C) (e : End) (A B : List C) → Widest kind rule book rules P Q → FirstOpen kind.height Q i → k < cutLimit → d < row_limit → (e ≡ E.None → ⊥) →
+  pub step-first : (k d i c : ℕ) (P Q : List C) (e : End) (A B : List C) → Widest kind rule book rules P Q → FirstOpen kind.height Q i → k < cut_limit → d < row_limit → (e ≡ E.None → ⊥) →
       Sought (k + 1) (d + 1) (change halves.first Q i) (ending e A) c → (e ≡ E.Found → B ≡ A) → Sought k d P (ending e B) c
   step-first k d i c P Q e A B w f a b n t q = subst (λ x. Sought k d P x c) (lifted e A B (λ z. sym (q z))) (child w (in-first i f a b t (not_none e A n)))
 
-  pub step-second : (k d i m c : ℕ) (P Q : List C) (e₁ e : End) (A₁ A B : List C) → Widest kind rule book rules P Q → FirstOpen kind.height Q i → k < cutLimit → d < row_limit → e₁ ≡ E.None →
+  pub step-second : (k d i m c : ℕ) (P Q : List C) (e₁ e : End) (A₁ A B : List C) → Widest kind rule book rules P Q → FirstOpen kind.height Q i → k < cut_limit → d < row_limit → e₁ ≡ E.None →
       Sought (k + 1) (d + 1) (change halves.first Q i) (ending e₁ A₁) m → Sought m (d + 1) (change halves.second Q i) (ending e A) c → (e ≡ E.Found → B ≡ A) → Sought k d P (ending e B) c
   step-second k d i m c P Q e₁ e A₁ A B w f a b n t u q =
       let t' = subst (λ x. Sought (k + 1) (d + 1) (change halves.first Q i) (ending x A₁) m) n t in
@@ -89,16 +89,16 @@ module _ {C V W B R : Type 0} (kind : Domain.Ghosts C V W) (rule : Propagator.Gh
     stays P Q rests (inl n) = absurd (n P (inside-self kind.allows P) rests)
     stays P Q rests (inr w) = rests-only P Q rests w
 
-module _ {C V W B R : Type 0} (kind : Domain.Ghosts C V W) (halves : Halves.Ghosts C V W) (rule : Propagator.Ghosts R C B V W) (book : B) (rules : List R) (cutLimit row_limit : ℕ)
+module _ {C V W B R : Type 0} (kind : Domain.Ghosts C V W) (halves : Halves.Ghosts C V W) (rule : Propagator.Ghosts R C B V W) (book : B) (rules : List R) (cut_limit row_limit : ℕ)
     (bounds : BoundsLaws kind.allows kind.sample kind.inside) where
   -- a half that rests is a node
-  pub at_rest : {k d c : ℕ} {P : List C} {e : Ending C} → Rests kind rule book rules P → Seek kind halves rule book rules cutLimit row_limit half k d P e c → Seek kind halves rule book rules cutLimit row_limit node k d P e c
+  pub at_rest : {k d c : ℕ} {P : List C} {e : Ending C} → Rests kind rule book rules P → Seek kind halves rule book rules cut_limit row_limit half k d P e c → Seek kind halves rule book rules cut_limit row_limit node k d P e c
   at_rest {P = P} rests (turn-back n) = absurd (n P (inside-self kind.allows P) rests)
-  at_rest {k} {d} {c} {e = e} rests (child {P = P} {Q = Q} w t) = subst (λ X. Seek kind halves rule book rules cutLimit row_limit node k d X e c) (rests-only kind rule book rules bounds P Q rests w) t
+  at_rest {k} {d} {c} {e = e} rests (child {P = P} {Q = Q} w t) = subst (λ X. Seek kind halves rule book rules cut_limit row_limit node k d X e c) (rests-only kind rule book rules bounds P Q rests w) t
 
 -- ---- no cells
 
 module _ {C V W B R : Type 0} (kind : Domain.Ghosts C V W) (halves : Halves.Ghosts C V W) (rule : Propagator.Ghosts R C B V W) (book : B) (rules : List R) where
-  pub no_cells : (cells : List C) (cutLimit : ℕ) (stack : List C) → length cells ≡ 0 → SearchedOn kind halves rule book rules cells cutLimit stack stack (record { end = E.Found; cuts = 0 })
-  no_cells [] cutLimit stack e = record { room = omega arith; searched = λ rests. all-single tt; kept = λ rests n. absurd (n refl); empty = λ _. refl }
-  no_cells (p ∷ ps) cutLimit stack e = absurd (omega arith)
+  pub no_cells : (cells : List C) (cut_limit : ℕ) (stack : List C) → length cells ≡ 0 → SearchedOn kind halves rule book rules cells cut_limit stack stack (record { end = E.Found; cuts = 0 })
+  no_cells [] cut_limit stack e = record { room = omega arith; searched = λ rests. all-single tt; kept = λ rests n. absurd (n refl); empty = λ _. refl }
+  no_cells (p ∷ ps) cut_limit stack e = absurd (omega arith)

@@ -13,12 +13,12 @@ use Rattle.solver.specs.Endings.{ending}
 abbrev pub rows_above : ℕ → ℕ → ℕ
 rows_above stack cells = stack / cells - 1
 
-module _ {C V T B R : Type 0} (kind : Domain.Ghosts C V T) (halves : Halves.Ghosts C V T) (rule : Propagator.Ghosts R C B V T) (book : B) (rules : List R) (cells : List C) (cutLimit : ℕ) (before after : List C) where
+module _ {C V T B R : Type 0} (kind : Domain.Ghosts C V T) (halves : Halves.Ghosts C V T) (rule : Propagator.Ghosts R C B V T) (book : B) (rules : List R) (cells : List C) (cut_limit : ℕ) (before after : List C) where
   -- the stack has room for the cells, and has been searched on
   pub record SearchedOn (s : Settled) : Type 0 where
     pub room : length cells ≤ length before
     -- from cells that rest, this is the search, and what it found stands in the first row
-    pub searched : Rests kind rule book rules cells → Searched kind halves rule book rules cutLimit (rows_above (length before) (length cells)) cells (ending s.end (take (length cells) after)) s.cuts
+    pub searched : Rests kind rule book rules cells → Searched kind halves rule book rules cut_limit (rows_above (length before) (length cells)) cells (ending s.end (take (length cells) after)) s.cuts
     -- if it found nothing, the cells stand there
     pub kept : Rests kind rule book rules cells → (s.end ≢ Found) → take (length cells) after ≡ cells
     -- no cells: nothing is written

@@ -6,7 +6,7 @@ use Rattle.std.proofs.lemmas.List.{at_drop_more}
 use Rattle.std.proofs.lemmas.Str.Parse.{IsNumeralModel, numerals_by_fold}
 use Rattle.std.proofs.lemmas.Fmt.{digits_decimal, digits_value-decimal, decimal_nonempty, first_decimal, decimal_digit, decimal-digits_value}
 use Rattle.std.specs.Str.{all_ascii_digits}
-use Rattle.text.specs.Numbers.{digits_on, number_of, within, Numbers-round}
+use Rattle.text.specs.Numbers.{digits_on, number_of, within, NumbersRound}
 
 pub digit-step : (n : ℕ) (s : List ℕ) (i : ℕ) → i < length s → digits_on n (drop i s) ≡ cond (leb 48 (get_or s i 0) && leb (get_or s i 0) 57) (digits_on (n * 10 + (get_or s i 0 - 48)) (drop (i + 1) s)) None
 digit-step n s i lt = at_drop_more (digits_on n) s i 0 lt
@@ -64,7 +64,7 @@ within-at : (low high n : ℕ) (o : Option ℕ) → o ≡ Some n → low ≤ n �
 within-at low high n None e lo hi = grind arith
 within-at low high n (Some m) e lo hi = grind (arith, nat_tests)
 
-pub numbers-round : Numbers-round
+pub numbers-round : NumbersRound
 numbers-round = record {
   read_back = λ low high n small lo hi. within-at low high n (number_of (decimal n)) (reads n (omega arith)) lo hi;
   written_back = λ low high n s small e. let h = within-some low high n (number_of s) e in (writes n s (omega (arith, h.2)) h.0, h.1, h.2);

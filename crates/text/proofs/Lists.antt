@@ -12,7 +12,7 @@ use Rattle.std.proofs.lemmas.Fmt.{digits_decimal, decimal_nonempty, length-decim
 use Rattle.std.proofs.lemmas.List.{append-nil, get_or_append_left, length-map, length-append}
 use Rattle.text.specs.Parts.{parts_of, rejoined, Lacks, All}
 use Rattle.text.specs.Numbers.{number_of, within}
-use Rattle.text.specs.Lists.{then_some, rising, dash, list_of, plus, list_text, places_from, members, listed, Lists-round}
+use Rattle.text.specs.Lists.{option_then, rising, dash, list_of, plus, list_text, places_from, members, listed, ListsRound}
 use Rattle.text.specs.declared.list.PlaceList.{PlaceList}
 use Rattle.text.proofs.Cuts.{Free, lacks-free, free-lacks, parts_whole, parts_cut, parts-some, rejoined-parts}
 use Rattle.text.proofs.Digits.{numbers-round}
@@ -70,7 +70,7 @@ rising-free [] r = free_one 44 45 [] (λ e. omega (arith, e)) (free-lacks 44 [] 
 rising-free (p ∷ ps) r = free-append 44 (decimal p) (flat_map plus ps) (free 44 p r.1 (omega arith)) (plus-free p ps r.2)
 
 -- read and written again
-written_at : (last : ℕ) (p : List ℕ) (ps : List (List ℕ)) (res : List ℕ) → ((n : ℕ) (ns : List ℕ) → rising n ps ≡ Some ns → ps ≡ map decimal ns) → (o : Option ℕ) → within (last + 1) 99 (number_of p) ≡ o → (q : (n : ℕ) → Option (List ℕ)) → ((n : ℕ) → rising n ps ≡ q n) → then_some o (λ n. option_map (λ ns. n ∷ ns) (q n)) ≡ Some res → p ∷ ps ≡ map decimal res
+written_at : (last : ℕ) (p : List ℕ) (ps : List (List ℕ)) (res : List ℕ) → ((n : ℕ) (ns : List ℕ) → rising n ps ≡ Some ns → ps ≡ map decimal ns) → (o : Option ℕ) → within (last + 1) 99 (number_of p) ≡ o → (q : (n : ℕ) → Option (List ℕ)) → ((n : ℕ) → rising n ps ≡ q n) → option_then o (λ n. option_map (λ ns. n ∷ ns) (q n)) ≡ Some res → p ∷ ps ≡ map decimal res
 written_at last p ps res ih None w q h e = absurd (grind arith)
 written_at last p ps res ih (Some n) w q h e = at (q n) refl e
   where
@@ -157,7 +157,7 @@ short-list (p ∷ ps) r = omega (arith, length-append (decimal p) (flat_map plus
 pub list-fits : (l : PlaceList) → All (λ p. p ≤ 64) (listed l) → length (list_text (listed l)) ≤ 193
 list-fits l a = let r = members-rise l.bits in omega (arith, short-list (listed l) r, few-places 0 (listed l) r (omega arith) a)
 
-pub lists-round : Lists-round
+pub lists-round : ListsRound
 lists-round = record {
   read_back = λ l. reads (listed l) (members-rise l.bits);
   written_back = writes;

@@ -9,14 +9,14 @@ use Rattle.text.specs.Numbers.{number_of, within}
 use Rattle.text.specs.Parts.{parts_of}
 use Rattle.text.specs.declared.list.PlaceList.{PlaceList}
 
-abbrev pub then_some : {X Y : Type 0} → Option X → (X → Option Y) → Option Y
-then_some None f = None
-then_some (Some x) f = f x
+abbrev pub option_then : {X Y : Type 0} → Option X → (X → Option Y) → Option Y
+option_then None f = None
+option_then (Some x) f = f x
 
 -- the places that the parts write, each above the one before it and at most 99
 abbrev pub rising : ℕ → List (List ℕ) → Option (List ℕ)
 rising last [] = Some []
-rising last (p ∷ ps) = then_some (within (last + 1) 99 (number_of p)) (λ n. option_map (λ ns. n ∷ ns) (rising n ps))
+rising last (p ∷ ps) = option_then (within (last + 1) 99 (number_of p)) (λ n. option_map (λ ns. n ∷ ns) (rising n ps))
 
 -- the empty list is `-`, and any other is as `others` says
 abbrev pub dash : List ℕ → Option (List ℕ) → Option (List ℕ)
@@ -56,7 +56,7 @@ abbrev pub listed : PlaceList → List ℕ
 listed l = members l.bits
 
 -- a list written and read again is the same list; a text read and written again is the same text
-pub record Lists-round : Type 0 where
+pub record ListsRound : Type 0 where
   pub read_back : (l : PlaceList) → list_of (list_text (listed l)) ≡ Some (listed l)
   pub written_back : (s ps : List ℕ) → list_of s ≡ Some ps → list_text ps ≡ s
   pub same : (k l : PlaceList) → listed k ≡ listed l → k ≡ l

@@ -22,7 +22,7 @@ use Rattle.ticket.specs.Lines.{fields_of, fields_at, line_at, body_at, counted_a
 use Rattle.text.specs.Lists.{list_of, list_at, list_text, listed}
 use Rattle.text.specs.Numbers.{number_of, within, number_at}
 use Rattle.text.specs.Parts.{rejoined}
-use Rattle.ticket.specs.Rows.{row_text, row_letter, OnTicket, Rows-round}
+use Rattle.ticket.specs.Rows.{row_text, row_letter, OnTicket, RowsRound}
 use Rattle.ticket.specs.Words.{knows_letter, known, letter_of, letter_at, word_at, field_count}
 use Rattle.text.proofs.Cuts.{Free, free-lacks, parts_whole, parts_cut, rejoined-parts}
 use Rattle.text.proofs.Digits.{numbers-round}
@@ -195,5 +195,5 @@ fits (Group cell sure possible) a =
 fits (Number cell low high) a =
     omega (arith, row-length 78 2 7 7 (decimal cell.number) (decimal low.value) (decimal high.value) (length-decimal-le 2 cell.number (omega arith) (omega (arith, cell.most)) (omega (arith, cell.most))) (length-decimal-le 7 low.value (omega arith) (omega (arith, low.most)) (omega (arith, low.most))) (length-decimal-le 7 high.value (omega arith) (omega (arith, high.most)) (omega (arith, high.most))))
 
-pub rows-round : Rows-round
+pub rows-round : RowsRound
 rows-round = record { read_back = reads; written_back = written; same = same; fits = fits }

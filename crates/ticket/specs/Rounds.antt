@@ -1,9 +1,9 @@
 -- Numbers, lists and rows go to text and back without loss.
-use Rattle.text.specs.Numbers.{Numbers-round}
-use Rattle.text.specs.Lists.{Lists-round}
-use Rattle.ticket.specs.Rows.{Rows-round}
+use Rattle.text.specs.Numbers.{NumbersRound}
+use Rattle.text.specs.Lists.{ListsRound}
+use Rattle.ticket.specs.Rows.{RowsRound}
 
-pub record Round-trips : Type 0 where
-  pub numbers : Numbers-round
-  pub lists : Lists-round
-  pub rows : Rows-round
+pub record RoundTrips : Type 0 where
+  pub numbers : NumbersRound
+  pub lists : ListsRound
+  pub rows : RowsRound

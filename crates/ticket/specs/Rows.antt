@@ -25,7 +25,7 @@ OnTicket (group cell sure possible) = All (λ p. p ≤ 64) sure × All (λ p. p 
 OnTicket (number cell low high) = Unit {0}
 
 -- a row written and read again is the same row; a row read and written again is the same text
-pub record Rows-round : Type 0 where
+pub record RowsRound : Type 0 where
   pub read_back : (dialect : Dialect) (line : ℕ) (row : Row) → knows_letter dialect (row_letter (bounds row)) ≡ true → length (row_text (bounds row)) ≤ 400 → line_at dialect line (row_text (bounds row)) ≡ Ok (declare (bounds row))
   pub written_back : (dialect : Dialect) (line : ℕ) (s : List ℕ) (b : Bounds) → line_at dialect line s ≡ Ok (declare b) → row_text b ≡ s
   -- two rows of the same meaning are the same row

@@ -1,7 +1,7 @@
 //! What a line of a ticket says.
 
 ghost use Rattle.std.specs.Prelude.{◌≤◌, Some, decimal};
-ghost use Rattle.std.proofs.Common.{rules, arith};
+ghost use Rattle.std.proofs.Common.{lit≤};
 
 use super::word::{MemberWord, PairWord, TripleWord};
 use bales::{Place, Ranged, Weight};
@@ -70,7 +70,7 @@ impl Ranged for CellNumber {
 
     ghost figure = { λ c. c.number };
 
-    ghost small = { first_of (Prim.search rules, Prim.grind (arith, Self.row.coded.inj)) };
+    ghost small = { lit≤ tt };
 
     fn from_number(number: u32) -> Option<CellNumber> {
         if 1 <= number && number <= 99 {
@@ -90,7 +90,7 @@ impl Ranged for End {
 
     ghost figure = { λ e. e.value };
 
-    ghost small = { first_of (Prim.search rules, Prim.grind (arith, Self.row.coded.inj)) };
+    ghost small = { lit≤ tt };
 
     fn from_number(number: u32) -> Option<End> {
         if number <= 1_000_000 {
@@ -108,7 +108,7 @@ impl Ranged for CutLimit {
 
     ghost figure = { λ l. l.cuts };
 
-    ghost small = { first_of (Prim.search rules, Prim.grind (arith, Self.row.coded.inj)) };
+    ghost small = { lit≤ tt };
 
     fn from_number(number: u32) -> Option<CutLimit> {
         if number <= 1_000_000 {

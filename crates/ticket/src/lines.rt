@@ -1,7 +1,7 @@
 //! The lines of a ticket, and a whole ticket read.
 
 ghost use Rattle.std.specs.Prelude.{◌≡◌, ◌<◌, [], ◌∷◌, map, length, MatchResult};
-ghost use Rattle.ticket.specs.Rounds.{Round-trips};
+ghost use Rattle.ticket.specs.Rounds.{RoundTrips};
 ghost use Rattle.ticket.specs.Tickets.{lines_of, Splits, Reads, Refuses};
 
 use super::entry::Entry;
@@ -31,7 +31,7 @@ fn take_line(text: &[u8]) -> (&[u8], &[u8])
 /// Reads all lines of a ticket, each as its entry or its fault; only a ticket that is too large
 /// is refused whole. What is read goes to text and back without loss.
 pub fn read_ticket(heap: Global, dialect: Dialect, text: &[u8]) -> Result<Vec<Reading>, Failure>
-    ensures round { Round-trips }
+    ensures round { RoundTrips }
     ensures lines { Splits text.now (lines_of text.now) }
     ensures cases { MatchResult result (λ v. Reads dialect text.now v.items) (Refuses text.now) }
 {

@@ -2,14 +2,14 @@ use Rattle.std.proofs.Common.{◌++◌, map, vec_items, sym, ap, ◌∙◌, appe
 use Rattle.std.proofs.lemmas.List.{nil_from_length}
 use Rattle.std.proofs.lemmas.Result.{err_from_is_err_and}
 use Rattle.ticket.specs.Tickets.{told, lines_of, readings}
-use Rattle.ticket.specs.Rounds.{Round-trips}
+use Rattle.ticket.specs.Rounds.{RoundTrips}
 use Rattle.text.proofs.Digits.{numbers-round}
 use Rattle.text.proofs.Lists.{lists-round}
 use Rattle.ticket.proofs.RowsBack.{rows-round}
 use Rattle.ticket.proofs.LineEnds.{splits, readings-more, told_is}
 use Rattle.ticket.proofs.lines.read_ticket.Goals as goal
 
-round-trips : Round-trips
+round-trips : RoundTrips
 round-trips = record { numbers = numbers-round; lists = lists-round; rows = rows-round }
 
 pub returns-then-text-gt-LARGEST : goal.returns-then-text-gt-LARGEST
