@@ -4,7 +4,7 @@ use Rattle.engine.specs.declared.field.Field.{Field}
 use Rattle.engine.specs.Telling.{named}
 use Rattle.engine.specs.Parts.{of_kind, second_of}
 use Rattle.engine.specs.Fits.{first_misfit, FitLaws, cell_fields}
-use Rattle.engine.proofs.Fitting.{Lasting, cells_fit, fit-stands, stands-fit}
+use Rattle.engine.proofs.Fitting.{Lasting, cells-fit, fit-stands, stands-fit}
 use Rattle.engine.proofs.Sorts.{kind-lasts}
 use Rattle.words.specs.Cells.{CellAllows}
 use Rattle.words.specs.CellsLemmas.{cell-bounds, numbers}
@@ -42,4 +42,4 @@ fits-joined allows i js f fs one more = record {
 }
 
 pub group-and-number-fit : (i j : ℕ) → FitLaws CellAllows (named (i ∷ (j ∷ []))) (scale_fields i j)
-group-and-number-fit i j = fits-joined CellAllows i (j ∷ []) (group_field 3 i) (cell_fields (number_cell second_of 4 j ∷ []) []) (fit-laws [] 3 (i ∷ [])) (cells_fit CellAllows (number_cell second_of 4 j ∷ []) [] (numbers-last, tt))
+group-and-number-fit i j = fits-joined CellAllows i (j ∷ []) (group_field 3 i) (cell_fields (number_cell second_of 4 j ∷ []) []) (fit-laws [] 3 (i ∷ [])) (cells-fit CellAllows (number_cell second_of 4 j ∷ []) [] (numbers-last, tt))

@@ -2,7 +2,8 @@
 pub mod Fields
 pub mod Numbers
 pub mod Scales
-pub mod NumberLaws
-pub mod Lifting
-pub mod ScaleLaws
+-- The proofs of their laws, which the words cite where they state them.
 pub mod Fitting
+pub mod Lifting
+pub mod NumberLaws
+pub mod ScaleLaws

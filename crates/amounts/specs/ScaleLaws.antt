@@ -63,8 +63,8 @@ told-where m n s t e = ap (λ b. cond b s t) (eq-eqb m n e)
 where-told : (P : ℕ → Type 0) (m n s t : ℕ) → (m ≡ n → P s) → P t → P (cond (m == n) s t)
 where-told P m n s t f g = elim (m == n) as (λ v. (m == n) ≡ v → P (cond v s t)) [ true ↦ λ e. f (eqb-true m n e) | false ↦ λ e. g ] refl
 
-none_in : (a : ℕ) → Sub none a
-none_in a k t = absurd (subst T (has-none k) t)
+none-in : (a : ℕ) → Sub none a
+none-in a k t = absurd (subst T (has-none k) t)
 
 count-monotone : Monotone count ones-mono (λ x n. (count_tells x n).0)
 count-monotone x n x' n' a i j p l u h =
@@ -76,7 +76,7 @@ count-monotone x n x' n' a i j p l u h =
       where-told (λ g. Sub g (bits a)) n'.low (count (possible x')) (possible x') none
           (λ e. subst (λ g. Sub g (bits a)) (ones-same (possible x) (possible x') r (omega arith))
           (subst (λ g. Sub g (bits a)) (told-where n.low (count (possible x)) (possible x) none (omega arith)) h.0))
-          (none_in (bits a)),
+          (none-in (bits a)),
       where-told (λ g. Sub (bits a) g) n'.high (count (sure x')) (sure x') (possible x')
           (λ e. subst (λ g. Sub (bits a) g) (sym (ones-same (sure x') (sure x) s (omega arith)))
           (subst (λ g. Sub (bits a) g) (told-where n.high (count (sure x)) (sure x) (possible x) (omega arith)) h.1))
@@ -87,7 +87,7 @@ count-keeps : Keeps count ones-mono (λ x n. (count_tells x n).0)
 count-keeps x n a p l u = (
   where-told (λ g. Sub g (bits a)) n.low (count (possible x)) (possible x) none
       (λ e. subst (λ g. Sub g (bits a)) (ones-same (bits a) (possible x) p.1 (omega arith)) (λ k t. t))
-      (none_in (bits a)),
+      (none-in (bits a)),
   where-told (λ g. Sub (bits a) g) n.high (count (sure x)) (sure x) (possible x)
       (λ e. subst (λ g. Sub (bits a) g) (sym (ones-same (sure x) (bits a) p.0 (omega arith))) (λ k t. t))
       p.1,

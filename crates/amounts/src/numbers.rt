@@ -7,7 +7,7 @@ ghost use Rattle.amounts.specs.Fields.{number_cell};
 ghost use Rattle.amounts.specs.Numbers.{sum_tells, SumHolds, most_tells, MostHolds};
 ghost use Rattle.engine.proofs.Lifted.{three-narrowing, three-relation, two-narrowing, two-relation};
 ghost use Rattle.amounts.specs.NumberLaws.{sum-laws, most-laws};
-ghost use Rattle.engine.proofs.Fitting.{cells_fit};
+ghost use Rattle.engine.proofs.Fitting.{cells-fit};
 ghost use Rattle.engine.proofs.Sorts.{kind-lasts};
 
 use super::numeric::{Numeric, number_field, three_numbers_at, two_numbers_at};
@@ -65,7 +65,7 @@ impl<C: Numeric, B> Propagator<C, B> for Sum {
     ghost fitting = { λ b w.
         let last = kind-lasts C.Domain.bounds C.Numeric.sits in
         let part = C.Numeric.part in
-        cells_fit C.Domain.allows (number_cell part 3 w.first ∷ (number_cell part 4 w.second ∷ (number_cell part 5 w.third ∷ []))) [] (last, (last, (last, tt))) };
+        cells-fit C.Domain.allows (number_cell part 3 w.first ∷ (number_cell part 4 w.second ∷ (number_cell part 5 w.third ∷ []))) [] (last, (last, (last, tt))) };
 
     fn names_cell(&self, cell: usize) -> bool {
         self.first == cell || self.second == cell || self.third == cell
@@ -125,7 +125,7 @@ impl<C: Numeric, B> Propagator<C, B> for Most {
     ghost fitting = { λ b w.
         let last = kind-lasts C.Domain.bounds C.Numeric.sits in
         let part = C.Numeric.part in
-        cells_fit C.Domain.allows (number_cell part 3 w.first ∷ (number_cell part 4 w.second ∷ [])) [] (last, (last, tt)) };
+        cells-fit C.Domain.allows (number_cell part 3 w.first ∷ (number_cell part 4 w.second ∷ [])) [] (last, (last, tt)) };
 
     fn names_cell(&self, cell: usize) -> bool {
         self.first == cell || self.second == cell

@@ -7,7 +7,7 @@ ghost use Rattle.domain.specs.Numbers.{NumberAllows, number_height, NumberPasses
 ghost use Rattle.engine.specs.Fits.{cell_field};
 ghost use Rattle.engine.specs.Parts.{PartLaws, operand, of_kind, second_of, right_of};
 ghost use Rattle.engine.specs.Arity.{all_two, all_three};
-ghost use Rattle.engine.proofs.Sorts.{whole_part};
+ghost use Rattle.engine.proofs.Sorts.{whole-part};
 ghost use Rattle.words.specs.CellsLemmas.{numbers};
 
 use domain::{Domain, Either, Group, GroupTell, Mixed, Number, NumberTell};
@@ -47,7 +47,7 @@ impl Numeric for Number {
 
     ghost tell = { λ t. t };
 
-    ghost sits = { whole_part NumberAllows number_height NumberPasses };
+    ghost sits = { whole-part NumberAllows number_height NumberPasses };
 
     fn number(self) -> Option<Number> {
         Some(self)

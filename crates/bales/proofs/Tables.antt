@@ -8,8 +8,8 @@ use Rattle.bales.specs.Tables.{weights, table_of}
 abbrev pub filled : List Bale → ℕ → List ℕ
 filled bs i = weights (take i bs) ++ replicate (64 - i) 0
 
-pub filled_more : (bs : List Bale) (i : ℕ) (d : Bale) → i < length bs → length bs ≤ 64 → set (filled bs i) i (get_or bs i d).weight.pounds ≡ filled bs (i + 1)
-filled_more bs i d h m =
+pub filled-more : (bs : List Bale) (i : ℕ) (d : Bale) → i < length bs → length bs ≤ 64 → set (filled bs i) i (get_or bs i d).weight.pounds ≡ filled bs (i + 1)
+filled-more bs i d h m =
     let e : 64 - i ≡ suc (64 - (i + 1)) = omega arith in
     ap (λ n. set (weights (take i bs) ++ replicate n 0) i (get_or bs i d).weight.pounds) e
     ∙ set_at (weights (take i bs)) 0 (replicate (64 - (i + 1)) 0) (get_or bs i d).weight.pounds i (length-map (take i bs) _ ∙ length-take-le i bs (omega arith))

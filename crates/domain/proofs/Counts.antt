@@ -2,7 +2,7 @@
 use Rattle.std.proofs.Common.{◌≡◌, ℕ, zero, suc, ◌+◌, ◌<◌, ◌≤◌, Bool, List, [], ◌∷◌, ◌++◌, length, sym, refl, ◌∙◌, subst, ap₂, inl, inr, le_refl, eq-zero-or-pos, arith, length-append}
 use Rattle.domain.specs.Laws.{Within, BoundsLaws, HeightLaws, HalvesLaws}
 use Rattle.domain.specs.Counted.{In, Counted, Counting}
-use Rattle.domain.proofs.Lists.{in_left, in_right, in_either, ascending-append, no_longer}
+use Rattle.domain.proofs.Lists.{in-left, in-right, in-either, ascending-append, no-longer}
 
 module _ {P V : Type 0} {allows : P → V → Type 0} {sample : P → V} {inside : P → P → Bool} {height : P → ℕ} {before : V → V → Type 0} {first second : P → P}
     (l : BoundsLaws allows sample inside) (h : HeightLaws allows height) (s : HalvesLaws allows height before first second) where
@@ -24,8 +24,8 @@ module _ {P V : Type 0} {allows : P → V → Type 0} {sample : P → V} {inside
   joined p o m n f b = record {
     values = f.values ++ b.values;
     ascending = ascending-append before f.values b.values f.ascending b.ascending (λ u v x y. s.ordered p o u v (f.only u x) (b.only v y));
-    only = λ v x. elim (in_either v f.values b.values x) [ inl y ↦ s.first-inside p o v (f.only v y) | inr y ↦ s.second-inside p o v (b.only v y) ];
-    every = λ v x. elim (s.covered p o v x) [ inl y ↦ in_left v f.values b.values (f.every v y) | inr y ↦ in_right v f.values b.values (b.every v y) ];
+    only = λ v x. elim (in-either v f.values b.values x) [ inl y ↦ s.first-inside p o v (f.only v y) | inr y ↦ s.second-inside p o v (b.only v y) ];
+    every = λ v x. elim (s.covered p o v x) [ inl y ↦ in-left v f.values b.values (f.every v y) | inr y ↦ in-right v f.values b.values (b.every v y) ];
     long = length-append f.values b.values ∙ ap₂ ◌+◌ f.long b.long;
   }
 
@@ -52,13 +52,13 @@ module _ {P V : Type 0} {allows : P → V → Type 0} {sample : P → V} {inside
   counted p = counted-to (suc (height p)) p (le_refl (suc (height p)))
 
   -- bounds within others allow no more values
-  pub no_more : (p q : P) (m n : ℕ) → Within allows p q → Counted allows before p m → Counted allows before q n → m ≤ n
-  no_more p q m n w a b =
-      let k : length a.values ≤ length b.values = no_longer before s.irreflexive s.transitive a.values b.values a.ascending b.ascending (λ v x. b.every v (w v (a.only v x))) in
+  pub no-more : (p q : P) (m n : ℕ) → Within allows p q → Counted allows before p m → Counted allows before q n → m ≤ n
+  no-more p q m n w a b =
+      let k : length a.values ≤ length b.values = no-longer before s.irreflexive s.transitive a.values b.values a.ascending b.ascending (λ v x. b.every v (w v (a.only v x))) in
       omega (arith, a.long, b.long)
 
   pub count-unique : (p : P) (m n : ℕ) → Counted allows before p m → Counted allows before p n → m ≡ n
-  count-unique p m n a b = let x = no_more p p m n (λ v c. c) a b in let y = no_more p p n m (λ v c. c) b a in omega arith
+  count-unique p m n a b = let x = no-more p p m n (λ v c. c) a b in let y = no-more p p n m (λ v c. c) b a in omega arith
 
   pub some-counted : (p : P) (n : ℕ) → Counted allows before p n → 1 ≤ n
   some-counted p n c = one c.values (c.every (sample p) (l.some p)) c.long
@@ -73,6 +73,6 @@ module _ {P V : Type 0} {allows : P → V → Type 0} {sample : P → V} {inside
     counted = c.1;
     some = some-counted p c.0 c.1;
     unique = λ n d. count-unique p n c.0 d c.1;
-    no_more = λ q n w d. no_more q p n c.0 w d c.1;
+    no-more = λ q n w d. no-more q p n c.0 w d c.1;
     halves = λ o m n a b. count-unique p (m + n) c.0 (joined p o m n a b) c.1;
   }

@@ -1,4 +1,4 @@
--- What follows from the laws of kinds, and the laws of each kind.
+-- What follows from the laws of kinds.
 pub mod Narrowing
 pub mod Lists
 pub mod Counts

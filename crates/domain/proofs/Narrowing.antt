@@ -6,8 +6,8 @@ use Rattle.domain.specs.Options.{answered}
 
 module _ {P V : Type 0} {allows : P → V → Type 0} {sample : P → V} {inside : P → P → Bool} (l : BoundsLaws allows sample inside) where
   -- each inside the other
-  pub inside_both : (p q : P) → T (inside p q) → T (inside q p) → p ≡ q
-  inside_both p q s t = l.same p q (l.inside-only p q s) (l.inside-only q p t)
+  pub inside-both : (p q : P) → T (inside p q) → T (inside q p) → p ≡ q
+  inside-both p q s t = l.same p q (l.inside-only p q s) (l.inside-only q p t)
 
   pub inside-self : (p q : P) → p ≡ q → T (inside q p)
   inside-self p q e = l.inside-each q p (λ v a. subst (λ r. allows r v) (sym e) a)

@@ -26,5 +26,5 @@ pub record Counting {P V : Type 0} (allows : P → V → Type 0) (height : P →
   pub counted : Counted allows before p number
   pub some : 1 ≤ number
   pub unique : (n : ℕ) → Counted allows before p n → n ≡ number
-  pub no_more : (q : P) (n : ℕ) → Within allows q p → Counted allows before q n → n ≤ number
+  pub no-more : (q : P) (n : ℕ) → Within allows q p → Counted allows before q n → n ≤ number
   pub halves : 0 < height p → (m n : ℕ) → Counted allows before (first p) m → Counted allows before (second p) n → m + n ≡ number

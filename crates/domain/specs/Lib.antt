@@ -5,7 +5,8 @@ pub mod Counted
 pub mod Mixes
 pub mod Numbers
 pub mod Groups
-pub mod GroupsLemmas
+-- The proofs of the laws of each kind, which the kinds cite where they state them.
 pub mod Options
-pub mod MixesLemmas
+pub mod GroupsLemmas
 pub mod NumbersLemmas
+pub mod MixesLemmas

@@ -8,13 +8,13 @@ use Rattle.domain.specs.declared.mixed.Either.TheVariants.{Left, Right}
 use Rattle.domain.specs.Laws.{Within, OneValue, BoundsLaws, HeightLaws, HalvesLaws}
 use Rattle.domain.specs.Tells.{TellLaws}
 use Rattle.domain.specs.Mixes.{MixAllows, mix_sample, mix_inside, mix_height, MixBefore, mix_half, MixPasses, mix_meet}
-use Rattle.domain.specs.Options.{none-some, some_is, onto-some, onto-none}
+use Rattle.domain.specs.Options.{none-some, some-is, onto-some, onto-none}
 
-left_is : {U V : Type 0} {u v : U} → ◌≡◌ {A = Either U V} (Left u) (Left v) → u ≡ v
-left_is e = cc
+left-is : {U V : Type 0} {u v : U} → ◌≡◌ {A = Either U V} (Left u) (Left v) → u ≡ v
+left-is e = cc
 
-right_is : {U V : Type 0} {u v : V} → ◌≡◌ {A = Either U V} (Right u) (Right v) → u ≡ v
-right_is e = cc
+right-is : {U V : Type 0} {u v : V} → ◌≡◌ {A = Either U V} (Right u) (Right v) → u ≡ v
+right-is e = cc
 
 module _ {P U : Type 0} {allows : P → U → Type 0} {sample : P → U} {inside : P → P → Bool}
     {Q V : Type 0} {allows' : Q → V → Type 0} {sample' : Q → V} {inside' : Q → Q → Bool}
@@ -62,8 +62,8 @@ module _ {P U : Type 0} {allows : P → U → Type 0} {sample : P → U} {inside
     single-only (Second b) z (Right u) (Right v) x y = ap Right (k.single-only b z u v x y)
 
     single-each : (p : Mixed P Q) → OneValue (MixAllows allows allows') p → mix_height height height' p ≡ 0
-    single-each (First a) f = h.single-each a (λ u v x y. left_is (f (Left u) (Left v) x y))
-    single-each (Second b) f = k.single-each b (λ u v x y. right_is (f (Right u) (Right v) x y))
+    single-each (First a) f = h.single-each a (λ u v x y. left-is (f (Left u) (Left v) x y))
+    single-each (Second b) f = k.single-each b (λ u v x y. right-is (f (Right u) (Right v) x y))
 
     pub mix-heights : HeightLaws (MixAllows allows allows') (mix_height height height')
     mix-heights = record { lower = lower; single-only = single-only; single-each = single-each }
@@ -148,8 +148,8 @@ module _ {P U J : Type 0} {allows : P → U → Type 0} {passes : J → U → Ty
       let w = onto-some First (meet t a) q e in
       let h' : A (First w.0) v = subst (λ x. A x v) w.2 h in
       elim v as (λ x. A (First w.0) x → A (First a) x) [ Left u ↦ λ z. l.only t a w.0 w.1 u z | Right u ↦ λ z. z ] h'
-  only (Left t) (Second b) q e v h = subst (λ x. A x v) (sym (some_is e)) h
-  only (Right t) (First a) q e v h = subst (λ x. A x v) (sym (some_is e)) h
+  only (Left t) (Second b) q e v h = subst (λ x. A x v) (sym (some-is e)) h
+  only (Right t) (First a) q e v h = subst (λ x. A x v) (sym (some-is e)) h
   only (Right t) (Second b) q e v h =
       let w = onto-some Second (meet' t b) q e in
       let h' : A (Second w.0) v = subst (λ x. A x v) w.2 h in
@@ -160,10 +160,10 @@ module _ {P U J : Type 0} {allows : P → U → Type 0} {passes : J → U → Ty
       let w = onto-some First (meet t a) q e in
       let h' : A (First w.0) v = subst (λ x. A x v) w.2 h in
       elim v as (λ x. A (First w.0) x → F (Left t) x) [ Left u ↦ λ z. l.passed t a w.0 w.1 u z | Right u ↦ λ z. tt ] h'
-  passed (Left t) (Second b) q e (Left u) h = absurd (subst (λ x. A x (Left u)) (sym (some_is e)) h)
+  passed (Left t) (Second b) q e (Left u) h = absurd (subst (λ x. A x (Left u)) (sym (some-is e)) h)
   passed (Left t) (Second b) q e (Right u) h = tt
   passed (Right t) (First a) q e (Left u) h = tt
-  passed (Right t) (First a) q e (Right u) h = absurd (subst (λ x. A x (Right u)) (sym (some_is e)) h)
+  passed (Right t) (First a) q e (Right u) h = absurd (subst (λ x. A x (Right u)) (sym (some-is e)) h)
   passed (Right t) (Second b) q e v h =
       let w = onto-some Second (meet' t b) q e in
       let h' : A (Second w.0) v = subst (λ x. A x v) w.2 h in
@@ -174,8 +174,8 @@ module _ {P U J : Type 0} {allows : P → U → Type 0} {passes : J → U → Ty
       let w = onto-some First (meet t a) q e in
       subst (λ x. A x (Left u)) (sym w.2) (l.each t a w.0 w.1 u h f)
   each (Left t) (First a) q e (Right u) h f = absurd h
-  each (Left t) (Second b) q e v h f = subst (λ x. A x v) (some_is e) h
-  each (Right t) (First a) q e v h f = subst (λ x. A x v) (some_is e) h
+  each (Left t) (Second b) q e v h f = subst (λ x. A x v) (some-is e) h
+  each (Right t) (First a) q e v h f = subst (λ x. A x v) (some-is e) h
   each (Right t) (Second b) q e (Left u) h f = absurd h
   each (Right t) (Second b) q e (Right u) h f =
       let w = onto-some Second (meet' t b) q e in

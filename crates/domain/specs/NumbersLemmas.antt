@@ -5,13 +5,13 @@ use Rattle.std.proofs.Common.{sym, ap, inl, inr, le_refl, arith, leb→le, le→
 use mathlib.Core.HLevel.{is_prop→PathP, ×_prop}
 use Rattle.std.proofs.Math.Bridge.{le_prop}
 use Rattle.std.proofs.Math.Decide.{dec_lt, dec_le}
-use Rattle.places.proofs.Tables.{and_left, and_right, and_both}
+use Rattle.places.proofs.Tables.{and-left, and-right, and-both}
 use Rattle.domain.specs.declared.bounds.Number.{Number, ok-type}
 use Rattle.domain.specs.declared.bounds.NumberTell.{NumberTell}
 use Rattle.domain.specs.Laws.{Within, BoundsLaws, HeightLaws, HalvesLaws}
 use Rattle.domain.specs.Tells.{TellLaws}
 use Rattle.domain.specs.Numbers.{NumberAllows, number_sample, number_inside, number_height, NumberPasses, number_if, number_of, number_meet, middle, number_first, number_second}
-use Rattle.domain.specs.Options.{none-some, some_is}
+use Rattle.domain.specs.Options.{none-some, some-is}
 
 pub number-eq : (p q : Number) → p.low ≡ q.low → p.high ≡ q.high → p ≡ q
 number-eq p q e f = λ i. record {
@@ -31,10 +31,10 @@ pub number-bounds : BoundsLaws NumberAllows number_sample number_inside
 number-bounds = record {
   some = λ p. (le_refl p.low, p.ok.0);
   inside-only = λ p q t v a.
-      let x : q.low ≤ p.low = leb→le q.low p.low (and_left (nat_le q.low p.low) (nat_le p.high q.high) t) in
-      let y : p.high ≤ q.high = leb→le p.high q.high (and_right (nat_le q.low p.low) (nat_le p.high q.high) t) in
+      let x : q.low ≤ p.low = leb→le q.low p.low (and-left (nat_le q.low p.low) (nat_le p.high q.high) t) in
+      let y : p.high ≤ q.high = leb→le p.high q.high (and-right (nat_le q.low p.low) (nat_le p.high q.high) t) in
       (omega arith, omega arith);
-  inside-each = λ p q f. let o = over p q f in and_both _ _ (le→leb _ _ o.0) (le→leb _ _ o.1);
+  inside-each = λ p q f. let o = over p q f in and-both _ _ (le→leb _ _ o.0) (le→leb _ _ o.1);
   same = λ p q f g. let o = over p q f in let r = over q p g in number-eq p q (omega arith) (omega arith);
 }
 
@@ -67,16 +67,16 @@ number-halves = record {
 
 -- ---- what a number is told
 
-if_some : (l e : ℕ) (h : e ≤ 1000001) (b : Bool) (f : nat_lt l e ≡ b) (n : Number) → number_if l e h b f ≡ Some n → (n.low ≡ l) × (n.high + 1 ≡ e)
-if_some l e h true f n g =
-    let x = ap (λ (z : Number). z.low) (some_is g) in
-    let y = ap (λ (z : Number). z.high) (some_is g) in
+if-some : (l e : ℕ) (h : e ≤ 1000001) (b : Bool) (f : nat_lt l e ≡ b) (n : Number) → number_if l e h b f ≡ Some n → (n.low ≡ l) × (n.high + 1 ≡ e)
+if-some l e h true f n g =
+    let x = ap (λ (z : Number). z.low) (some-is g) in
+    let y = ap (λ (z : Number). z.high) (some-is g) in
     let lt = ltb-true l e f in (sym x, omega arith)
-if_some l e h false f n g = absurd (none-some g)
+if-some l e h false f n g = absurd (none-some g)
 
-if_none : (l e : ℕ) (h : e ≤ 1000001) (b : Bool) (f : nat_lt l e ≡ b) → number_if l e h b f ≡ None → e ≤ l
-if_none l e h true f g = absurd (none-some (sym g))
-if_none l e h false f g = ltb-false l e f
+if-none : (l e : ℕ) (h : e ≤ 1000001) (b : Bool) (f : nat_lt l e ≡ b) → number_if l e h b f ≡ None → e ≤ l
+if-none l e h true f g = absurd (none-some (sym g))
+if-none l e h false f g = ltb-false l e f
 
 some-if : (l e : ℕ) (h : e ≤ 1000001) (b : Bool) (f : nat_lt l e ≡ b) (n : Number) → l < e → n.low ≡ l → n.high ≡ e - 1 → Some n ≡ number_if l e h b f
 some-if l e h true f n lt x y = ap Some (number-eq _ _ x y)
@@ -98,7 +98,7 @@ number-none l e ge = none-if _ _ _ _ refl (omega arith)
 module _ (t : NumberTell) (p q : Number) (e : number_meet t p ≡ Some q) where
   ends : (q.low ≡ max p.low t.raise) × (q.high + 1 ≡ min (p.high + 1) t.below)
   unfolding number_of
-  ends = let x = if_some _ _ _ _ refl q e in (x.0, omega arith)
+  ends = let x = if-some _ _ _ _ refl q e in (x.0, omega arith)
 
   told-only : (v : ℕ) → NumberAllows q v → NumberAllows p v
   told-only v a = let f = ends in (omega arith, omega arith)
@@ -109,9 +109,9 @@ module _ (t : NumberTell) (p q : Number) (e : number_meet t p ≡ Some q) where
   told-each : (v : ℕ) → NumberAllows p v → NumberPasses t v → NumberAllows q v
   told-each v a h = let f = ends in (omega arith, omega arith)
 
-told_none : (t : NumberTell) (p : Number) → number_meet t p ≡ None → (v : ℕ) → NumberAllows p v → NumberPasses t v → ⊥
+told-none : (t : NumberTell) (p : Number) → number_meet t p ≡ None → (v : ℕ) → NumberAllows p v → NumberPasses t v → ⊥
 unfolding number_of
-told_none t p e v a h = let f = if_none _ _ _ _ refl e in omega arith
+told-none t p e v a h = let f = if-none _ _ _ _ refl e in omega arith
 
 pub number-tells : TellLaws NumberAllows NumberPasses number_meet
-number-tells = record { only = told-only; passed = told-passed; each = told-each; none = told_none }
+number-tells = record { only = told-only; passed = told-passed; each = told-each; none = told-none }

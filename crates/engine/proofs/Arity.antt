@@ -1,6 +1,6 @@
 -- Propagators of one, two and three operands as propagators on lists of operands.
 use Rattle.std.proofs.Common.{◌≡◌, ℕ, ◌⊎◌, List, [], ◌∷◌, Some, None, Option, sym, ◌∙◌, subst, inl, inr, ⊎_elim}
-use Rattle.domain.specs.Options.{none-some, some_is, answered}
+use Rattle.domain.specs.Options.{none-some, some-is, answered}
 use Rattle.engine.specs.Rows.{Inside, Chosen, AllSingle}
 use Rattle.engine.specs.Parts.{PartLaws}
 use Rattle.engine.specs.Arity.{ThreeLaws, Two, TwoLaws, OneLaws}
@@ -99,8 +99,8 @@ module _ {C W L X U J Y V K : Type 0} {allows : C → W → Type 0} {height : C 
       (λ (s : (x : X) × (y : Y) × (part p ≡ Some x) × (part' o ≡ Some y)).
       let k = one.some p s.0 v s.2 c.0 in
       let l = two.some o s.1 w s.3 c.1.0 in
-      let k' : allows' s.0 a = subst (allows' s.0) (some_is (sym k.1 ∙ g)) k.2 in
-      let l' : allows'' s.1 b = subst (allows'' s.1) (some_is (sym l.1 ∙ g')) l.2 in
+      let k' : allows' s.0 a = subst (allows' s.0) (some-is (sym k.1 ∙ g)) k.2 in
+      let l' : allows'' s.1 b = subst (allows'' s.1) (some-is (sym l.1 ∙ g')) l.2 in
       over q r v w x' y' a b e e' g g' (laws.monotone s.0 s.1 x' y' a b (part-within one p q s.0 x' i.0 s.2 e) (part-within two o r s.1 y' i.1.0 s.3 e') k' l'
       (under p o v w s.0 s.1 a b s.2 s.3 g g' h)))
       (⊎_elim (λ z. inl (inl z)) (λ (s : (x : X) × (part p ≡ Some x)). ⊎_elim (λ z. inl (inr z)) (λ (u : (y : Y) × (part' o ≡ Some y)). inr (s.0, u.0, s.1, u.1)) (answered (part' o))) (answered (part p))))
@@ -157,7 +157,7 @@ module _ {C W L X U J : Type 0} {allows : C → W → Type 0} {height : C → �
       let es = s.1 in
       let a = one.some p s.0 v es c.0 in
       let k = rw es at h in
-      let m : allows' s.0 b.0 = subst (allows' s.0) (some_is (sym a.1 ∙ b.1)) a.2 in
+      let m : allows' s.0 b.0 = subst (allows' s.0) (some-is (sym a.1 ∙ b.1)) a.2 in
       rw et (one.pass (f t.0) v b.0 b.1 (laws.monotone s.0 t.0 b.0 (part-within one p q s.0 t.0 i.0 es et) m (one.passed (f s.0) v b.0 b.1 k.0)), tt))
       (answered (part p)))
       (answered (part q))
@@ -191,5 +191,5 @@ module _ {C W L X U J : Type 0} {allows : C → W → Type 0} {height : C → �
       rw ea (laws.exact s.0 a.0 a.2 (one.single p s.0 es o.0) (one.passed (f s.0) v a.0 ea k.0)))
       (answered (part p))
 
-  pub one_word : OperandLaws allows height passes one-tells (OneHeld kin holds)
-  one_word = record { monotone = one-monotone; keeps = one-keeps; exact = one-exact }
+  pub one-word : OperandLaws allows height passes one-tells (OneHeld kin holds)
+  one-word = record { monotone = one-monotone; keeps = one-keeps; exact = one-exact }

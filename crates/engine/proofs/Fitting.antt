@@ -2,7 +2,7 @@
 use Rattle.std.proofs.Common.{◌≡◌, ℕ, zero, suc, ◌+◌, ◌<◌, Bool, true, false, ◌||◌, eqb, List, [], ◌∷◌, ◌++◌, length, get_or, drop, Some, None, Option, sym, refl, ap, ◌∙◌, subst, arith, eqb-true}
 use Rattle.std.proofs.lemmas.List.{at_drop_more}
 use Rattle.domain.specs.Laws.{Within}
-use Rattle.domain.specs.Options.{none-some, some_is}
+use Rattle.domain.specs.Options.{none-some, some-is}
 use Rattle.engine.specs.declared.field.Field.{Field}
 use Rattle.engine.specs.declared.field.Misfit.{Misfit}
 use Rattle.engine.specs.declared.field.Reason.{Reason}
@@ -40,9 +40,9 @@ none-faulty r (f ∷ fs) more e =
     let b = none-faulty r fs more a.1 in
     ((a.0, b.0), b.1)
 
-all_sound : (r : Reason) (fs : List Field) (more : Option Misfit) → AllStand r fs → first_at_fault r fs more ≡ more
-all_sound r [] more h = refl
-all_sound r (f ∷ fs) more h = let e = h.0 in rw e (all_sound r fs more h.1)
+all-sound : (r : Reason) (fs : List Field) (more : Option Misfit) → AllStand r fs → first_at_fault r fs more ≡ more
+all-sound r [] more h = refl
+all-sound r (f ∷ fs) more h = let e = h.0 in rw e (all-sound r fs more h.1)
 
 pub fit-stands : (fs : List Field) → first_misfit fs ≡ None → (r : Reason) → AllStand r fs
 fit-stands fs e =
@@ -60,10 +60,10 @@ fit-stands fs e =
 
 pub stands-fit : (fs : List Field) → ((r : Reason) → AllStand r fs) → first_misfit fs ≡ None
 stands-fit fs h =
-    all_sound OutOfRange fs (first_at_fault NotDeclared fs (first_at_fault WrongKind fs (first_at_fault NotListed fs None))) (h OutOfRange)
-    ∙ all_sound NotDeclared fs (first_at_fault WrongKind fs (first_at_fault NotListed fs None)) (h NotDeclared)
-    ∙ all_sound WrongKind fs (first_at_fault NotListed fs None) (h WrongKind)
-    ∙ all_sound NotListed fs None (h NotListed)
+    all-sound OutOfRange fs (first_at_fault NotDeclared fs (first_at_fault WrongKind fs (first_at_fault NotListed fs None))) (h OutOfRange)
+    ∙ all-sound NotDeclared fs (first_at_fault WrongKind fs (first_at_fault NotListed fs None)) (h NotDeclared)
+    ∙ all-sound WrongKind fs (first_at_fault NotListed fs None) (h WrongKind)
+    ∙ all-sound NotListed fs None (h NotListed)
 
 -- ---- cells that are added
 
@@ -142,12 +142,12 @@ module _ {C V : Type 0} (allows : C → V → Type 0) where
   inside-moved : (P Q : List C) → Inside allows Q P → Moved P Q
   inside-moved [] Q a i p e = absurd (none-some e)
   inside-moved (x ∷ xs) [] a i p e = absurd a
-  inside-moved (x ∷ xs) (y ∷ ys) a zero p e = (y, refl, λ v h. subst (λ z. allows z v) (some_is e) (a.0 v h))
+  inside-moved (x ∷ xs) (y ∷ ys) a zero p e = (y, refl, λ v h. subst (λ z. allows z v) (some-is e) (a.0 v h))
   inside-moved (x ∷ xs) (y ∷ ys) a (suc i) p e = inside-moved xs ys a.1 i p e
 
   -- A FIT LASTS, for fields that name cells and fields that do not look at the row
-  pub cells_fit : (cs : List (ℕ × Bool × (C → Bool) × ℕ)) (fs : List Field) → AllLasting cs → FitLaws allows (named (cells_named cs)) (cell_fields cs fs)
-  cells_fit cs fs l = record {
+  pub cells-fit : (cs : List (ℕ × Bool × (C → Bool) × ℕ)) (fs : List Field) → AllLasting cs → FitLaws allows (named (cells_named cs)) (cell_fields cs fs)
+  cells-fit cs fs l = record {
     added = λ P p h. stands-fit (cell_fields cs fs (P ++ (p ∷ []))) (moved-fields cs fs P (P ++ (p ∷ [])) l
         (λ i q e. (q, item-append P (p ∷ []) i (item-within P i q e) ∙ e, λ v a. a)) (fit-stands (cell_fields cs fs P) h));
     narrowed = λ P Q a h. stands-fit (cell_fields cs fs Q) (moved-fields cs fs P Q l (inside-moved P Q a) (fit-stands (cell_fields cs fs P) h));

@@ -10,7 +10,7 @@ use Rattle.engine.specs.Arity.{one_told, one_narrowed, HoldsOne, OneHolds, OneLa
 use Rattle.engine.proofs.Operands.{both, from_operands, row_narrowed, OfValues, RowHolds, OperandLaws, of_parts, part_tells, PartHolds, told_one, one_tells, told_two, two_tells, three_tells, HeldOne, OneHeld, HeldTwo, TwoHeld, ThreeHeld}
 use Rattle.engine.proofs.Lifting.{narrowing-lifted, relation-lifted}
 use Rattle.engine.proofs.Parts.{part-word}
-use Rattle.engine.proofs.Arity.{one_word, two-word, three-word}
+use Rattle.engine.proofs.Arity.{one-word, two-word, three-word}
 
 -- laws carried to another way to write the same narrowing and the same relation
 module _ {C V K : Type 0} {allows : C → V → Type 0} {inside : C → C → Bool} {sample : C → V} {height : C → ℕ} {passes : K → V → Type 0} {meet : K → C → Option C} {tells : List C → List K} {holds : List V → Type 0}
@@ -30,27 +30,27 @@ module _ {C W K X U J : Type 0} {allows : C → W → Type 0} {inside : C → C 
     {allows' : X → U → Type 0} {height' : X → ℕ} {passes' : J → U → Type 0} {part : C → Option X} {kin : W → Option U} {value : U → W} {tell : J → K} {f : X → J} {holds : U → Type 0}
     (bounds : BoundsLaws allows sample inside) (heights : HeightLaws allows height) (told : TellLaws allows passes meet)
     (kind : PartLaws allows height passes allows' height' passes' part kin value tell) (laws : OneLaws allows' height' passes' f holds) (a : ℕ) where
-  as_one : (P : List C) (o : Option X) → told_all meet (a ∷ []) (told_one tell f o) P ≡ one_told meet tell f a P o
-  as_one P None = refl
-  as_one P (Some x) = refl
+  as-one : (P : List C) (o : Option X) → told_all meet (a ∷ []) (told_one tell f o) P ≡ one_told meet tell f a P o
+  as-one P None = refl
+  as-one P (Some x) = refl
 
-  read_one : (P : List C) (p : Option C) → from_operands meet (one_tells part tell f) (a ∷ []) P (both p (Some [])) ≡ one_told meet tell f a P (onward p part)
-  read_one P None = refl
-  read_one P (Some p) = as_one P (part p)
+  read-one : (P : List C) (p : Option C) → from_operands meet (one_tells part tell f) (a ∷ []) P (both p (Some [])) ≡ one_told meet tell f a P (onward p part)
+  read-one P None = refl
+  read-one P (Some p) = as-one P (part p)
 
-  held_one : (o : Option U) → HeldOne holds o ≡ HoldsOne holds o
-  held_one None = refl
-  held_one (Some u) = refl
+  held-one : (o : Option U) → HeldOne holds o ≡ HoldsOne holds o
+  held-one None = refl
+  held-one (Some u) = refl
 
   value-one : (v : Option W) → OfValues (OneHeld kin holds) (both v (Some [])) ≡ HoldsOne holds (onward v kin)
   value-one None = refl
-  value-one (Some v) = held_one (kin v)
+  value-one (Some v) = held-one (kin v)
 
   pub one-narrowing : NarrowingLaws allows (named (a ∷ [])) (one_narrowed meet part tell f a)
-  one-narrowing = narrowing-as bounds heights told (one_word kind laws) (a ∷ []) (one_narrowed meet part tell f a) (λ P. read_one P (item P a))
+  one-narrowing = narrowing-as bounds heights told (one-word kind laws) (a ∷ []) (one_narrowed meet part tell f a) (λ P. read-one P (item P a))
 
   pub one-relation : RelationLaws allows height (named (a ∷ [])) (OneHolds kin holds a) (one_narrowed meet part tell f a)
-  one-relation = relation-as bounds heights told (one_word kind laws) (a ∷ []) (one_narrowed meet part tell f a) (λ P. read_one P (item P a)) (OneHolds kin holds a) (λ vs. value-one (item vs a))
+  one-relation = relation-as bounds heights told (one-word kind laws) (a ∷ []) (one_narrowed meet part tell f a) (λ P. read-one P (item P a)) (OneHolds kin holds a) (λ vs. value-one (item vs a))
 
 -- ---- two operands
 
@@ -66,19 +66,19 @@ module _ {C W L X U J Y V K : Type 0} {allows : C → W → Type 0} {inside : C 
   as-two P (Some x) None = refl
   as-two P (Some x) (Some y) = refl
 
-  no_second : (P : List C) (o : Option X) → Some P ≡ two_told meet tell tell' f a b P (all_two o None)
-  no_second P None = refl
-  no_second P (Some x) = refl
+  no-second : (P : List C) (o : Option X) → Some P ≡ two_told meet tell tell' f a b P (all_two o None)
+  no-second P None = refl
+  no-second P (Some x) = refl
 
   read-two : (P : List C) (p q : Option C) → from_operands meet (two_tells part part' tell tell' f) (a ∷ (b ∷ [])) P (both p (both q (Some []))) ≡ two_told meet tell tell' f a b P (all_two (onward p part) (onward q part'))
   read-two P None q = refl
-  read-two P (Some p) None = no_second P (part p)
+  read-two P (Some p) None = no-second P (part p)
   read-two P (Some p) (Some q) = as-two P (part p) (part' q)
 
-  held_two : (o : Option U) (o' : Option V) → HeldTwo holds o o' ≡ HoldsTwo holds (all_two o o')
-  held_two None o' = refl
-  held_two (Some u) None = refl
-  held_two (Some u) (Some v) = refl
+  held-two : (o : Option U) (o' : Option V) → HeldTwo holds o o' ≡ HoldsTwo holds (all_two o o')
+  held-two None o' = refl
+  held-two (Some u) None = refl
+  held-two (Some u) (Some v) = refl
 
   no-second-value : (o : Option U) → Unit {0} ≡ HoldsTwo holds (all_two o None)
   no-second-value None = refl
@@ -87,7 +87,7 @@ module _ {C W L X U J Y V K : Type 0} {allows : C → W → Type 0} {inside : C 
   value-two : (v w : Option W) → OfValues (TwoHeld kin kin' holds) (both v (both w (Some []))) ≡ HoldsTwo holds (all_two (onward v kin) (onward w kin'))
   value-two None w = refl
   value-two (Some v) None = no-second-value (kin v)
-  value-two (Some v) (Some w) = held_two (kin v) (kin' w)
+  value-two (Some v) (Some w) = held-two (kin v) (kin' w)
 
   pub two-narrowing : NarrowingLaws allows (named (a ∷ (b ∷ []))) (two_narrowed meet part part' tell tell' f a b)
   two-narrowing = narrowing-as bounds heights told (two-word kind kind' laws) (a ∷ (b ∷ [])) (two_narrowed meet part part' tell tell' f a b) (λ P. read-two P (item P a) (item P b))

@@ -2,15 +2,15 @@
 use Rattle.std.proofs.Common.{◌≡◌, ℕ, Bool, List, map, Some, None, Option, sym, ap, ◌∙◌, subst, ⊎_elim}
 use Rattle.domain.specs.Laws.{BoundsLaws, HeightLaws}
 use Rattle.domain.specs.Tells.{TellLaws}
-use Rattle.domain.specs.Options.{none-some, some_is, answered}
+use Rattle.domain.specs.Options.{none-some, some-is, answered}
 use Rattle.engine.specs.Rows.{Inside, Chosen, Single}
 use Rattle.engine.specs.Telling.{named}
 use Rattle.engine.proofs.Operands.{picked, row_narrowed, RowHolds, AllPass, OperandLaws}
 use Rattle.engine.specs.Laws.{NarrowingLaws, RelationLaws}
-use Rattle.engine.proofs.Rows.{inside-chosen, sample-chosen, chosen-inside, rows_same, singles-one}
+use Rattle.engine.proofs.Rows.{inside-chosen, sample-chosen, chosen-inside, rows-same, singles-one}
 use Rattle.engine.proofs.Picking.{picked-chosen, picked-past, picked-inside, picked-singles}
 use Rattle.engine.proofs.Naming.{touches-named, reads-named}
-use Rattle.engine.proofs.Passing.{row-pass, pass-row, all-only, all-each, all_none}
+use Rattle.engine.proofs.Passing.{row-pass, pass-row, all-only, all-each, all-none}
 
 module _ {C V K : Type 0} {allows : C → V → Type 0} {inside : C → C → Bool} {sample : C → V} {height : C → ℕ} {passes : K → V → Type 0} {meet : K → C → Option C} {tells : List C → List K} {holds : List V → Type 0}
     (bounds : BoundsLaws allows sample inside) (heights : HeightLaws allows height) (told : TellLaws allows passes meet) (operands : OperandLaws allows height passes tells holds) (names : List ℕ) where
@@ -20,7 +20,7 @@ module _ {C V K : Type 0} {allows : C → V → Type 0} {inside : C → C → Bo
   -- a choice of the new row is one of the old that gets through at the operands
   pub step-only : (P P' : List C) (vs : List V) → step P ≡ Some P' → Chosen allows P' vs → Chosen allows P vs
   step-only P P' vs e c =
-      ⊎_elim (λ n. subst (λ X. Chosen allows X vs) (sym (some_is (rw n at e))) c)
+      ⊎_elim (λ n. subst (λ X. Chosen allows X vs) (sym (some-is (rw n at e))) c)
       (λ (t : (xs : List C) × (picked P names ≡ Some xs)). let m = t.1 in (all-only told names (tells t.0) P P' vs (rw m at e) c).0)
       (answered (picked P names))
 
@@ -30,7 +30,7 @@ module _ {C V K : Type 0} {allows : C → V → Type 0} {inside : C → C → Bo
   -- and each such choice is kept
   pub step-each : (P P' : List C) (vs : List V) → step P ≡ Some P' → Chosen allows P vs → ((xs : List C) (us : List V) → picked P names ≡ Some xs → picked vs names ≡ Some us → AllPass passes (tells xs) us) → Chosen allows P' vs
   step-each P P' vs e c h =
-      ⊎_elim (λ n. subst (λ X. Chosen allows X vs) (some_is (rw n at e)) c)
+      ⊎_elim (λ n. subst (λ X. Chosen allows X vs) (some-is (rw n at e)) c)
       (λ (t : (xs : List C) × (picked P names ≡ Some xs)). let m = t.1 in
       let s = picked-chosen allows P vs names t.0 c m in
       all-each told names (tells t.0) P P' vs (rw m at e) c (row-pass passes vs names (tells t.0) s.0 s.1 (h t.0 s.0 m s.1)))
@@ -41,7 +41,7 @@ module _ {C V K : Type 0} {allows : C → V → Type 0} {inside : C → C → Bo
       ⊎_elim (λ n. none-some (sym (rw n at e)))
       (λ (t : (xs : List C) × (picked P names ≡ Some xs)). let m = t.1 in
       let s = picked-chosen allows P vs names t.0 c m in
-      all_none told names (tells t.0) P vs (rw m at e) c (row-pass passes vs names (tells t.0) s.0 s.1 (h t.0 s.0 m s.1)))
+      all-none told names (tells t.0) P vs (rw m at e) c (row-pass passes vs names (tells t.0) s.0 s.1 (h t.0 s.0 m s.1)))
       (answered (picked P names))
 
   -- a choice that gets through at a narrower row gets through at a wider one
@@ -51,7 +51,7 @@ module _ {C V K : Type 0} {allows : C → V → Type 0} {inside : C → C → Bo
       ⊎_elim (λ n. absurd (none-some (sym (picked-past allows P vs names d n) ∙ g)))
       (λ (t : (xs : List C) × (picked P names ≡ Some xs)).
       let s = picked-chosen allows P vs names t.0 d t.1 in
-      let same : s.0 ≡ us = some_is (sym s.1 ∙ g) in
+      let same : s.0 ≡ us = some-is (sym s.1 ∙ g) in
       operands.monotone t.0 ys us (picked-inside allows P Q names t.0 ys a t.1 f) (subst (λ ws. Chosen allows t.0 ws) same s.2) (step-passed P P' vs us t.0 e c t.1 g))
       (answered (picked P names))
 
@@ -79,7 +79,7 @@ module _ {C V K : Type 0} {allows : C → V → Type 0} {inside : C → C → Bo
   relation-passes : (P : List C) (vs : List V) → Chosen allows P vs → RowHolds holds names vs → (xs : List C) (us : List V) → picked P names ≡ Some xs → picked vs names ≡ Some us → AllPass passes (tells xs) us
   relation-passes P vs c m xs us e f =
       let s = picked-chosen allows P vs names xs c e in
-      let same : s.0 ≡ us = some_is (sym s.1 ∙ f) in
+      let same : s.0 ≡ us = some-is (sym s.1 ∙ f) in
       operands.keeps xs us (subst (λ ws. Chosen allows xs ws) same s.2) (rw f at m)
 
   exact : (P P' : List C) (vs : List V) → Chosen allows P vs → Single height (named names) P → step P ≡ Some P' → RowHolds holds names vs
@@ -104,9 +104,9 @@ module _ {C V K : Type 0} {allows : C → V → Type 0} {inside : C → C → Bo
       let back_in : Inside allows P t.0 = chosen-inside allows bounds.some P t.0 (λ ws d. step-each P t.0 ws t.1 d (λ xs us e f.
       let a = picked-chosen allows P vs names xs c e in
       let b = picked-chosen allows P ws names xs d e in
-      let one : a.0 ≡ us = singles-one heights xs a.0 b.0 (picked-singles P names xs s e) a.2 b.2 ∙ some_is (sym b.1 ∙ f) in
+      let one : a.0 ≡ us = singles-one heights xs a.0 b.0 (picked-singles P names xs s e) a.2 b.2 ∙ some-is (sym b.1 ∙ f) in
       subst (AllPass passes (tells xs)) one (relation-passes P vs c m xs a.0 e a.1))) in
-      t.1 ∙ ap Some (rows_same bounds t.0 P (inside-old P t.0 t.1) back_in))
+      t.1 ∙ ap Some (rows-same bounds t.0 P (inside-old P t.0 t.1) back_in))
       (answered (step P))
 
   -- WHAT IT NARROWS FOR: the relation over the operands gives that over rows

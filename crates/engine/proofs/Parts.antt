@@ -1,11 +1,11 @@
 -- Propagators on one kind of cell, in rows of several kinds.
 use Rattle.std.proofs.Common.{◌≡◌, ℕ, List, [], ◌∷◌, map, Some, None, Option, sym, refl, ◌∙◌, subst, ⊎_elim}
 use Rattle.domain.specs.Laws.{Within}
-use Rattle.domain.specs.Options.{none-some, some_is, answered}
+use Rattle.domain.specs.Options.{none-some, some-is, answered}
 use Rattle.engine.specs.Rows.{Inside, Chosen, AllSingle}
 use Rattle.engine.proofs.Operands.{AllPass, OperandLaws, parts, part_tells, PartHolds}
 use Rattle.engine.specs.Parts.{PartLaws}
-use Rattle.engine.proofs.Answered.{both_some}
+use Rattle.engine.proofs.Answered.{both-some}
 use Rattle.engine.proofs.Rows.{inside-chosen}
 
 module _ {C V K X U J : Type 0} {allows : C → V → Type 0} {height : C → ℕ} {passes : K → V → Type 0}
@@ -13,11 +13,11 @@ module _ {C V K X U J : Type 0} {allows : C → V → Type 0} {height : C → �
     {part : C → Option X} {kin : V → Option U} {value : U → V} {tell : J → K}
     (laws : PartLaws allows height passes allows' height' passes' part kin value tell) where
   parts-chosen : (ps : List C) (vs : List V) (xs : List X) → Chosen allows ps vs → parts part ps ≡ Some xs → (us : List U) × (parts kin vs ≡ Some us) × Chosen allows' xs us
-  parts-chosen [] [] xs c e = ([], refl, subst (λ ys. Chosen allows' ys []) (some_is e) tt)
+  parts-chosen [] [] xs c e = ([], refl, subst (λ ys. Chosen allows' ys []) (some-is e) tt)
   parts-chosen [] (v ∷ vs) xs c e = absurd c
   parts-chosen (p ∷ ps) [] xs c e = absurd c
   parts-chosen (p ∷ ps) (v ∷ vs) xs c e =
-      let t = both_some (part p) (parts part ps) xs e in
+      let t = both-some (part p) (parts part ps) xs e in
       let a = laws.some p t.0 v t.2 c.0 in
       let b = parts-chosen ps vs t.1 c.1 t.3 in
       let ea = a.1 in
@@ -41,37 +41,37 @@ module _ {C V K X U J : Type 0} {allows : C → V → Type 0} {height : C → �
   pub part-within : (p q : C) (x y : X) → Within allows p q → part p ≡ Some x → part q ≡ Some y → Within allows' x y
   part-within p q x y w e f u a =
       let t = laws.some q y (value u) f (w (value u) (laws.whole p x u e a)) in
-      subst (allows' y) (some_is (sym t.1 ∙ laws.value-kin u)) t.2
+      subst (allows' y) (some-is (sym t.1 ∙ laws.value-kin u)) t.2
 
   parts-inside : (ps qs : List C) (xs ys : List X) → Inside allows ps qs → parts part ps ≡ Some xs → parts part qs ≡ Some ys → Inside allows' xs ys
-  parts-inside [] [] xs ys a e f = subst (λ Z. Inside allows' Z ys) (some_is e) (subst (λ Z. Inside allows' [] Z) (some_is f) tt)
+  parts-inside [] [] xs ys a e f = subst (λ Z. Inside allows' Z ys) (some-is e) (subst (λ Z. Inside allows' [] Z) (some-is f) tt)
   parts-inside [] (q ∷ qs) xs ys a e f = absurd a
   parts-inside (p ∷ ps) [] xs ys a e f = absurd a
   parts-inside (p ∷ ps) (q ∷ qs) xs ys a e f =
-      let s = both_some (part p) (parts part ps) xs e in
-      let t = both_some (part q) (parts part qs) ys f in
+      let s = both-some (part p) (parts part ps) xs e in
+      let t = both-some (part q) (parts part qs) ys f in
       subst (λ Z. Inside allows' Z ys) (sym s.4) (subst (λ Z. Inside allows' (s.0 ∷ s.1) Z) (sym t.4)
       (part-within p q s.0 t.0 a.0 s.2 t.2, parts-inside ps qs s.1 t.1 a.1 s.3 t.3))
 
   parts-singles : (ps : List C) (xs : List X) → AllSingle height ps → parts part ps ≡ Some xs → AllSingle height' xs
-  parts-singles [] xs s e = subst (AllSingle height') (some_is e) tt
+  parts-singles [] xs s e = subst (AllSingle height') (some-is e) tt
   parts-singles (p ∷ ps) xs s e =
-      let t = both_some (part p) (parts part ps) xs e in
+      let t = both-some (part p) (parts part ps) xs e in
       subst (AllSingle height') (sym t.4) (laws.single p t.0 t.2 s.0, parts-singles ps t.1 s.1 t.3)
 
   pass-map : (js : List J) (vs : List V) (us : List U) → parts kin vs ≡ Some us → AllPass passes' js us → AllPass passes (map tell js) vs
   pass-map [] vs us e h = tt
   pass-map (j ∷ js) [] us e h = tt
   pass-map (j ∷ js) (v ∷ vs) us e h =
-      let t = both_some (kin v) (parts kin vs) us e in
+      let t = both-some (kin v) (parts kin vs) us e in
       let h' : AllPass passes' (j ∷ js) (t.0 ∷ t.1) = subst (AllPass passes' (j ∷ js)) t.4 h in
       (laws.pass j v t.0 t.2 h'.0, pass-map js vs t.1 t.3 h'.1)
 
   map-pass : (js : List J) (vs : List V) (us : List U) → parts kin vs ≡ Some us → AllPass passes (map tell js) vs → AllPass passes' js us
   map-pass [] vs us e h = tt
-  map-pass (j ∷ js) [] us e h = subst (AllPass passes' (j ∷ js)) (some_is e) tt
+  map-pass (j ∷ js) [] us e h = subst (AllPass passes' (j ∷ js)) (some-is e) tt
   map-pass (j ∷ js) (v ∷ vs) us e h =
-      let t = both_some (kin v) (parts kin vs) us e in
+      let t = both-some (kin v) (parts kin vs) us e in
       subst (AllPass passes' (j ∷ js)) (sym t.4) (laws.passed j v t.0 t.2 h.0, map-pass js vs t.1 t.3 h.1)
 
   -- what is shown for operands of one kind holds in rows of several kinds
@@ -86,7 +86,7 @@ module _ {C V K X U J : Type 0} {allows : C → V → Type 0} {height : C → �
         (λ (s : (xs : List X) × (parts part ps ≡ Some xs)).
         let es = s.1 in
         let d = parts-chosen ps vs s.0 c es in
-        let same : d.0 ≡ b.0 = some_is (sym d.1 ∙ b.1) in
+        let same : d.0 ≡ b.0 = some-is (sym d.1 ∙ b.1) in
         rw et (pass-map (tells t.0) vs b.0 b.1 (operands.monotone s.0 t.0 b.0 (parts-inside ps qs s.0 t.0 a es et) (subst (Chosen allows' s.0) same d.2)
         (map-pass (tells s.0) vs b.0 b.1 (rw es at h)))))
         (answered (parts part ps)))

@@ -1,7 +1,7 @@
 -- Rows inside others, and their choices.
 use Rattle.std.proofs.Common.{◌≡◌, ℕ, zero, suc, ◌<◌, ◌≤◌, Bool, List, [], ◌∷◌, ◌++◌, map, length, get_or, set, Some, None, sym, refl, ap, arith}
 use Rattle.domain.specs.Laws.{BoundsLaws, HeightLaws}
-use Rattle.domain.specs.Options.{none-some, some_is}
+use Rattle.domain.specs.Options.{none-some, some-is}
 use Rattle.engine.specs.Rows.{item, Inside, Chosen, AllSingle}
 
 module _ {C V : Type 0} (allows : C → V → Type 0) where
@@ -28,12 +28,12 @@ module _ {C V : Type 0} (allows : C → V → Type 0) where
     chosen-inside (p ∷ ps) [] f = f (map sample (p ∷ ps)) (sample-chosen (p ∷ ps))
     chosen-inside (p ∷ ps) (q ∷ qs) f = (λ v a. (f (v ∷ map sample ps) (a, sample-chosen ps)).0, chosen-inside ps qs (λ vs c. (f (sample p ∷ vs) (some p, c)).1))
 
-pub rows_same : {C V : Type 0} {allows : C → V → Type 0} {inside : C → C → Bool} {sample : C → V} →
+pub rows-same : {C V : Type 0} {allows : C → V → Type 0} {inside : C → C → Bool} {sample : C → V} →
     BoundsLaws allows sample inside → (P Q : List C) → Inside allows P Q → Inside allows Q P → P ≡ Q
-rows_same bounds [] [] a b = refl
-rows_same bounds [] (q ∷ qs) a b = absurd a
-rows_same bounds (p ∷ ps) [] a b = absurd a
-rows_same bounds (p ∷ ps) (q ∷ qs) a b = let h = bounds.same p q a.0 b.0 in let t = rows_same bounds ps qs a.1 b.1 in cc
+rows-same bounds [] [] a b = refl
+rows-same bounds [] (q ∷ qs) a b = absurd a
+rows-same bounds (p ∷ ps) [] a b = absurd a
+rows-same bounds (p ∷ ps) (q ∷ qs) a b = let h = bounds.same p q a.0 b.0 in let t = rows-same bounds ps qs a.1 b.1 in cc
 
 module _ {C V : Type 0} {allows : C → V → Type 0} {height : C → ℕ} (heights : HeightLaws allows height) where
   -- single cells have one choice
@@ -65,25 +65,25 @@ module _ {X : Type 0} where
   item-within (p ∷ ps) zero x e = omega arith
   item-within (p ∷ ps) (suc i) x e = let h = item-within ps i x e in omega arith
 
-  pub set_same : (P : List X) (i : ℕ) (x : X) → item P i ≡ Some x → set P i x ≡ P
-  set_same [] i x e = absurd (none-some e)
-  set_same (p ∷ ps) zero x e = ap (λ y. y ∷ ps) (sym (some_is e))
-  set_same (p ∷ ps) (suc i) x e = ap (λ ys. p ∷ ys) (set_same ps i x e)
+  pub set-same : (P : List X) (i : ℕ) (x : X) → item P i ≡ Some x → set P i x ≡ P
+  set-same [] i x e = absurd (none-some e)
+  set-same (p ∷ ps) zero x e = ap (λ y. y ∷ ps) (sym (some-is e))
+  set-same (p ∷ ps) (suc i) x e = ap (λ ys. p ∷ ys) (set-same ps i x e)
 
-  pub set_past : (P : List X) (i : ℕ) (x : X) → length P ≤ i → set P i x ≡ P
-  set_past [] i x h = refl
-  set_past (p ∷ ps) zero x h = absurd (omega arith)
-  set_past (p ∷ ps) (suc i) x h = ap (λ ys. p ∷ ys) (set_past ps i x (omega arith))
+  pub set-past : (P : List X) (i : ℕ) (x : X) → length P ≤ i → set P i x ≡ P
+  set-past [] i x h = refl
+  set-past (p ∷ ps) zero x h = absurd (omega arith)
+  set-past (p ∷ ps) (suc i) x h = ap (λ ys. p ∷ ys) (set-past ps i x (omega arith))
 
   pub item-set : (P : List X) (i : ℕ) (x y : X) → item P i ≡ Some x → item (set P i y) i ≡ Some y
   item-set [] i x y e = absurd (none-some e)
   item-set (p ∷ ps) zero x y e = refl
   item-set (p ∷ ps) (suc i) x y e = item-set ps i x y e
 
-  pub set_twice : (P : List X) (i : ℕ) (x y : X) → set (set P i x) i y ≡ set P i y
-  set_twice [] i x y = refl
-  set_twice (p ∷ ps) zero x y = refl
-  set_twice (p ∷ ps) (suc i) x y = ap (λ ys. p ∷ ys) (set_twice ps i x y)
+  pub set-twice : (P : List X) (i : ℕ) (x y : X) → set (set P i x) i y ≡ set P i y
+  set-twice [] i x y = refl
+  set-twice (p ∷ ps) zero x y = refl
+  set-twice (p ∷ ps) (suc i) x y = ap (λ ys. p ∷ ys) (set-twice ps i x y)
 
   pub item-append : (P Q : List X) (i : ℕ) → i < length P → item (P ++ Q) i ≡ item P i
   item-append [] Q i h = absurd (omega arith)
@@ -95,4 +95,4 @@ module _ {X : Type 0} where
   items-same [] [] s = refl
   items-same [] (q ∷ qs) s = absurd (none-some (s 0))
   items-same (p ∷ ps) [] s = absurd (none-some (sym (s 0)))
-  items-same (p ∷ ps) (q ∷ qs) s = let h = some_is (s 0) in let t = items-same ps qs (λ i. s (suc i)) in cc
+  items-same (p ∷ ps) (q ∷ qs) s = let h = some-is (s 0) in let t = items-same ps qs (λ i. s (suc i)) in cc

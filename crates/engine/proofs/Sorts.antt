@@ -6,14 +6,14 @@ use Rattle.domain.specs.declared.mixed.Either.{Either}
 use Rattle.domain.specs.declared.mixed.Either.TheVariants.{Left, Right}
 use Rattle.domain.specs.Mixes.{MixAllows, mix_height, MixPasses}
 use Rattle.domain.specs.Laws.{Within, BoundsLaws}
-use Rattle.domain.specs.Options.{none-some, some_is}
+use Rattle.domain.specs.Options.{none-some, some-is}
 use Rattle.engine.specs.Parts.{PartLaws, is_some, of_kind, first_of, second_of, left_of, right_of}
 
 module _ {A U J B V K : Type 0} (allows : A → U → Type 0) (height : A → ℕ) (passes : J → U → Type 0) (allows' : B → V → Type 0) (height' : B → ℕ) (passes' : K → V → Type 0) where
-  first_some : (p : Mixed A B) (x : A) (v : Either U V) → first_of p ≡ Some x → MixAllows allows allows' p v → (u : U) × (left_of v ≡ Some u) × allows x u
-  first_some (First a) x (Left u) e h = (u, refl, subst (λ y. allows y u) (some_is e) h)
-  first_some (First a) x (Right v) e h = absurd h
-  first_some (Second b) x v e h = absurd (none-some e)
+  first-some : (p : Mixed A B) (x : A) (v : Either U V) → first_of p ≡ Some x → MixAllows allows allows' p v → (u : U) × (left_of v ≡ Some u) × allows x u
+  first-some (First a) x (Left u) e h = (u, refl, subst (λ y. allows y u) (some-is e) h)
+  first-some (First a) x (Right v) e h = absurd h
+  first-some (Second b) x v e h = absurd (none-some e)
 
   first-none : (p : Mixed A B) (v : Either U V) → first_of p ≡ None → MixAllows allows allows' p v → left_of v ≡ None
   first-none (First a) v e h = absurd (none-some (sym e))
@@ -21,63 +21,63 @@ module _ {A U J B V K : Type 0} (allows : A → U → Type 0) (height : A → �
   first-none (Second b) (Right v) e h = refl
 
   first-whole : (p : Mixed A B) (x : A) (u : U) → first_of p ≡ Some x → allows x u → MixAllows allows allows' p (Left u)
-  first-whole (First a) x u e h = subst (λ y. allows y u) (sym (some_is e)) h
+  first-whole (First a) x u e h = subst (λ y. allows y u) (sym (some-is e)) h
   first-whole (Second b) x u e h = absurd (none-some e)
 
   first-single : (p : Mixed A B) (x : A) → first_of p ≡ Some x → mix_height height height' p ≡ 0 → height x ≡ 0
-  first-single (First a) x e h = subst (λ y. height y ≡ 0) (some_is e) h
+  first-single (First a) x e h = subst (λ y. height y ≡ 0) (some-is e) h
   first-single (Second b) x e h = absurd (none-some e)
 
   first-pass : (j : J) (v : Either U V) (u : U) → left_of v ≡ Some u → passes j u → MixPasses passes passes' (Left j) v
-  first-pass j (Left u') u e h = subst (passes j) (sym (some_is e)) h
+  first-pass j (Left u') u e h = subst (passes j) (sym (some-is e)) h
   first-pass j (Right v) u e h = tt
 
   first-passed : (j : J) (v : Either U V) (u : U) → left_of v ≡ Some u → MixPasses passes passes' (Left j) v → passes j u
-  first-passed j (Left u') u e h = subst (passes j) (some_is e) h
+  first-passed j (Left u') u e h = subst (passes j) (some-is e) h
   first-passed j (Right v) u e h = absurd (none-some e)
 
-  pub first_part : PartLaws (MixAllows allows allows') (mix_height height height') (MixPasses passes passes') allows height passes first_of left_of Left Left
-  first_part = record { value-kin = λ u. refl; some = first_some; none = first-none; whole = first-whole; single = first-single; pass = first-pass; passed = first-passed }
+  pub first-part : PartLaws (MixAllows allows allows') (mix_height height height') (MixPasses passes passes') allows height passes first_of left_of Left Left
+  first-part = record { value-kin = λ u. refl; some = first-some; none = first-none; whole = first-whole; single = first-single; pass = first-pass; passed = first-passed }
 
   second-some : (p : Mixed A B) (x : B) (v : Either U V) → second_of p ≡ Some x → MixAllows allows allows' p v → (u : V) × (right_of v ≡ Some u) × allows' x u
-  second-some (Second a) x (Right u) e h = (u, refl, subst (λ y. allows' y u) (some_is e) h)
+  second-some (Second a) x (Right u) e h = (u, refl, subst (λ y. allows' y u) (some-is e) h)
   second-some (Second a) x (Left v) e h = absurd h
   second-some (First b) x v e h = absurd (none-some e)
 
-  second_none : (p : Mixed A B) (v : Either U V) → second_of p ≡ None → MixAllows allows allows' p v → right_of v ≡ None
-  second_none (Second a) v e h = absurd (none-some (sym e))
-  second_none (First b) (Right u) e h = absurd h
-  second_none (First b) (Left v) e h = refl
+  second-none : (p : Mixed A B) (v : Either U V) → second_of p ≡ None → MixAllows allows allows' p v → right_of v ≡ None
+  second-none (Second a) v e h = absurd (none-some (sym e))
+  second-none (First b) (Right u) e h = absurd h
+  second-none (First b) (Left v) e h = refl
 
   second-whole : (p : Mixed A B) (x : B) (u : V) → second_of p ≡ Some x → allows' x u → MixAllows allows allows' p (Right u)
-  second-whole (Second a) x u e h = subst (λ y. allows' y u) (sym (some_is e)) h
+  second-whole (Second a) x u e h = subst (λ y. allows' y u) (sym (some-is e)) h
   second-whole (First b) x u e h = absurd (none-some e)
 
   second-single : (p : Mixed A B) (x : B) → second_of p ≡ Some x → mix_height height height' p ≡ 0 → height' x ≡ 0
-  second-single (Second a) x e h = subst (λ y. height' y ≡ 0) (some_is e) h
+  second-single (Second a) x e h = subst (λ y. height' y ≡ 0) (some-is e) h
   second-single (First b) x e h = absurd (none-some e)
 
   second-pass : (j : K) (v : Either U V) (u : V) → right_of v ≡ Some u → passes' j u → MixPasses passes passes' (Right j) v
-  second-pass j (Right u') u e h = subst (passes' j) (sym (some_is e)) h
+  second-pass j (Right u') u e h = subst (passes' j) (sym (some-is e)) h
   second-pass j (Left v) u e h = tt
 
   second-passed : (j : K) (v : Either U V) (u : V) → right_of v ≡ Some u → MixPasses passes passes' (Right j) v → passes' j u
-  second-passed j (Right u') u e h = subst (passes' j) (some_is e) h
+  second-passed j (Right u') u e h = subst (passes' j) (some-is e) h
   second-passed j (Left v) u e h = absurd (none-some e)
 
   pub second-part : PartLaws (MixAllows allows allows') (mix_height height height') (MixPasses passes passes') allows' height' passes' second_of right_of Right Right
-  second-part = record { value-kin = λ u. refl; some = second-some; none = second_none; whole = second-whole; single = second-single; pass = second-pass; passed = second-passed }
+  second-part = record { value-kin = λ u. refl; some = second-some; none = second-none; whole = second-whole; single = second-single; pass = second-pass; passed = second-passed }
 
 -- a kind sits in itself
-pub whole_part : {A U J : Type 0} (allows : A → U → Type 0) (height : A → ℕ) (passes : J → U → Type 0) → PartLaws allows height passes allows height passes Some Some (λ u. u) (λ j. j)
-whole_part allows height passes = record {
+pub whole-part : {A U J : Type 0} (allows : A → U → Type 0) (height : A → ℕ) (passes : J → U → Type 0) → PartLaws allows height passes allows height passes Some Some (λ u. u) (λ j. j)
+whole-part allows height passes = record {
   value-kin = λ u. refl;
-  some = λ p x v e h. (v, refl, subst (λ y. allows y v) (some_is e) h);
+  some = λ p x v e h. (v, refl, subst (λ y. allows y v) (some-is e) h);
   none = λ p v e h. absurd (none-some (sym e));
-  whole = λ p x u e h. subst (λ y. allows y u) (sym (some_is e)) h;
-  single = λ p x e h. subst (λ y. height y ≡ 0) (some_is e) h;
-  pass = λ j v u e h. subst (passes j) (sym (some_is e)) h;
-  passed = λ j v u e h. subst (passes j) (some_is e) h;
+  whole = λ p x u e h. subst (λ y. allows y u) (sym (some-is e)) h;
+  single = λ p x e h. subst (λ y. height y ≡ 0) (some-is e) h;
+  pass = λ j v u e h. subst (passes j) (sym (some-is e)) h;
+  passed = λ j v u e h. subst (passes j) (some-is e) h;
 }
 
 -- what lies within a cell of a kind is of that kind

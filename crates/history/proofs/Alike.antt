@@ -21,7 +21,7 @@ module _ {C V T B R E : Type 0} {kind : Domain.Ghosts C V T} {halves : Halves.Gh
 
   pub bounds-alike : (t v : Told B C R) → Alike t v → (Q : List C) → Standing kind halves rule entered t Q → Standing kind halves rule entered v Q
   bounds-alike t v k Q w =
-      let x = (resting-theorems (laws t.book).lawful).any_order t.accepted v.accepted k.same-rules t.declared Q w in
+      let x = (resting-theorems (laws t.book).lawful).any-order t.accepted v.accepted k.same-rules t.declared Q w in
       subst (λ b. Widest kind rule b v.accepted v.declared Q) k.same-book (subst (λ P. Widest kind rule t.book v.accepted P Q) k.same-declared x)
 
   settles-moved : (t v : Told B C R) → Alike t v → (limit rows cuts : ℕ) (e : Ending C) → Settles kind halves rule entered t limit rows e cuts → Settles kind halves rule entered v limit rows e cuts
@@ -29,7 +29,7 @@ module _ {C V T B R E : Type 0} {kind : Domain.Ghosts C V T} {halves : Halves.Gh
     s.0,
     bounds-alike t v k s.0 s.1,
     subst (λ b. Searched kind halves rule b v.accepted limit rows s.0 e cuts) k.same-book
-        ((search-theorems (laws t.book)).any_order t.accepted v.accepted k.same-rules limit rows cuts s.0 e s.2),
+        ((search-theorems (laws t.book)).any-order t.accepted v.accepted k.same-rules limit rows cuts s.0 e s.2),
   )
 
   pub settles-alike : (t v : Told B C R) → Alike t v → (limit rows rows₂ m n : ℕ) (e f : Ending C) → rows ≡ rows₂ →

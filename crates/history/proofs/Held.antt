@@ -1,7 +1,7 @@
 -- What a sheet holds lasts: from a new sheet on, with each cell that it takes and each statement.
 use Rattle.std.proofs.Common.{◌≡◌, ℕ, List, [], ◌∷◌, ◌++◌, length, None, sym, subst, inl, inr}
 use Rattle.domain.specs.declared.kind.Domain as Domain
-use Rattle.domain.proofs.Lists.{in_left, in_either}
+use Rattle.domain.proofs.Lists.{in-left, in-either}
 use Rattle.engine.specs.declared.propagator.Propagator as Propagator
 use Rattle.engine.specs.Fits.{Fits}
 use Rattle.meaning.specs.Resting.{Widest, NoneRests}
@@ -27,7 +27,7 @@ module _ {C V T B R : Type 0} {kind : Domain.Ghosts C V T} {rule : Propagator.Gh
     pub holds-further : (line spare : ℕ) → state_denial (length t.declared) (length t.accepted) line (rule.fields t.book r t.declared) spare ≡ None →
         (Q : List C) → Widest kind rule t.book (t.accepted ++ (r ∷ [])) t.declared Q → Holds kind rule (with_rule t r) Q
     holds-further line spare e Q w = record {
-      fits = λ x i. elim (in_either x t.accepted (r ∷ []) i) [
+      fits = λ x i. elim (in-either x t.accepted (r ∷ []) i) [
         | inl j ↦ h.fits x j
         | inr j ↦ elim j [
           | inl q ↦ subst (λ y. Fits (rule.fields t.book y) t.declared) (sym q)
@@ -42,9 +42,9 @@ module _ {C V T B R : Type 0} {kind : Domain.Ghosts C V T} {rule : Propagator.Gh
     pub holds-stated : (line spare : ℕ) → state_denial (length t.declared) (length t.accepted) line (rule.fields t.book r t.declared) spare ≡ None →
         (Q : List C) → Widest kind rule t.book (t.accepted ++ (r ∷ [])) cells Q → Holds kind rule (with_rule t r) Q
     holds-stated line spare e Q w = holds-further line spare e Q
-        (((resting-theorems (laws t.book)).further t.accepted (t.accepted ++ (r ∷ [])) (λ x i. in_left x t.accepted (r ∷ []) i) t.declared cells Q h.stands).0 w)
+        (((resting-theorems (laws t.book)).further t.accepted (t.accepted ++ (r ∷ [])) (λ x i. in-left x t.accepted (r ∷ []) i) t.declared cells Q h.stands).0 w)
 
     -- nothing is left within the declared bounds where nothing is within the standing ones
-    pub nothing_left : NoneRests kind rule t.book (t.accepted ++ (r ∷ [])) cells → NoneRests kind rule t.book (t.accepted ++ (r ∷ [])) t.declared
-    nothing_left n =
-        ((resting-theorems (laws t.book)).further-none t.accepted (t.accepted ++ (r ∷ [])) (λ x i. in_left x t.accepted (r ∷ []) i) t.declared cells h.stands).0 n
+    pub nothing-left : NoneRests kind rule t.book (t.accepted ++ (r ∷ [])) cells → NoneRests kind rule t.book (t.accepted ++ (r ∷ [])) t.declared
+    nothing-left n =
+        ((resting-theorems (laws t.book)).further-none t.accepted (t.accepted ++ (r ∷ [])) (λ x i. in-left x t.accepted (r ∷ []) i) t.declared cells h.stands).0 n

@@ -76,15 +76,15 @@ module _ {C V T B R E : Type 0} {kind : Domain.Ghosts C V T} {halves : Halves.Gh
 
   -- ---- moments
 
-  as_long : {b : B} {cs : List (Call E R)} {answers : List (Answer C)} {t : Told B C R} → Lived b cs answers t → length cs ≡ length answers
-  as_long new = refl
-  as_long (next {cs = cs} {answers = answers} c a h s) = let i = as_long h in let j = length-append cs (c ∷ []) in let k = length-append answers (a ∷ []) in omega arith
+  as-long : {b : B} {cs : List (Call E R)} {answers : List (Answer C)} {t : Told B C R} → Lived b cs answers t → length cs ≡ length answers
+  as-long new = refl
+  as-long (next {cs = cs} {answers = answers} c a h s) = let i = as-long h in let j = length-append cs (c ∷ []) in let k = length-append answers (a ∷ []) in omega arith
 
   pub moments : {b : B} {cs : List (Call E R)} {answers : List (Answer C)} {t : Told B C R} → Lived b cs answers t → (i : ℕ) → i < length cs →
       (c : Call E R) × (a : Answer C) × (t : Told B C R) × (u : Told B C R) × Moment kind halves rule entered b cs answers i c a t u
   moments new i o = absurd (omega arith)
   moments {b} (next {cs = cs} {answers = answers} {t = t} {u = u} c a h s) i o =
-      let same = as_long h in
+      let same = as-long h in
       let more = length-append cs (c ∷ []) in
       elim (cases_lt i (length cs)) [
         | inl k ↦ let m = moments h i k in (
@@ -124,7 +124,7 @@ module _ {C V T B R E : Type 0} {kind : Domain.Ghosts C V T} {halves : Halves.Gh
   unrefused t h (Declare line k e) d =
       let p = (declare-passed (length t.declared) line k (entered.unranged e) (entered.admitted t.book e) d).1 in
       (taken, with_cell t p.0, (d, (p.0, p.1, refl)))
-  unrefused t h (State line r spare) d = elim ((resting-theorems (laws t.book).lawful).some_or_none (t.accepted ++ (r ∷ [])) t.declared) [
+  unrefused t h (State line r spare) d = elim ((resting-theorems (laws t.book).lawful).some-or-none (t.accepted ++ (r ∷ [])) t.declared) [
     | inl w ↦ (taken, with_rule t r, (d, (refl, w)))
     | inr n ↦ (denied (fault_of Contradiction line 0), t, (inr (d, (refl, n)), refl))
   ]

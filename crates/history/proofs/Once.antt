@@ -5,7 +5,7 @@ use Rattle.fault.specs.declared.Refusal.TheVariants.{Contradiction}
 use Rattle.fault.specs.Refusals.{fault_of}
 use Rattle.domain.specs.declared.kind.Domain as Domain
 use Rattle.domain.specs.declared.kind.Halves as Halves
-use Rattle.domain.specs.Options.{none-some, some_is}
+use Rattle.domain.specs.Options.{none-some, some-is}
 use Rattle.engine.specs.declared.propagator.Propagator as Propagator
 use Rattle.engine.specs.Rows.{item}
 use Rattle.meaning.specs.Search.{Ending, Searched}
@@ -86,7 +86,7 @@ module _ {C V T B R E : Type 0} {kind : Domain.Ghosts C V T} {halves : Halves.Gh
   contradicts-one t (Settle line limit long) f g m n = absurd m
 
   denied-one : (t : Told B C R) (c : Call E R) (f g : Fault) → Denied kind halves rule entered t c f → Denied kind halves rule entered t c g → f ≡ g
-  denied-one t c f g (inl d) (inl e) = some_is (sym d ∙ e)
+  denied-one t c f g (inl d) (inl e) = some-is (sym d ∙ e)
   denied-one t c f g (inl d) (inr n) = absurd (none-some (sym n.0 ∙ d))
   denied-one t c f g (inr m) (inl e) = absurd (none-some (sym m.0 ∙ e))
   denied-one t c f g (inr m) (inr n) = contradicts-one t c f g m.1 n.1
@@ -132,7 +132,7 @@ module _ {C V T B R E : Type 0} {kind : Domain.Ghosts C V T} {halves : Halves.Gh
   shown-once : (t : Told B C R) (c : Call E R) (p q : C) → Shows kind halves rule entered t c p → Shows kind halves rule entered t c q → p ≡ q
   shown-once t (Declare line k e) p q s y = absurd s
   shown-once t (State line r spare) p q s y = absurd s
-  shown-once t (Ask k) p q s y = some_is (sym s.2 ∙ ap (λ P. item P (k - 1)) (one-standing t s.0 y.0 s.1 y.1) ∙ y.2)
+  shown-once t (Ask k) p q s y = some-is (sym s.2 ∙ ap (λ P. item P (k - 1)) (one-standing t s.0 y.0 s.1 y.1) ∙ y.2)
   shown-once t (Settle line limit long) p q s y = absurd s
 
   ended-once : (t : Told B C R) (c : Call E R) (e f : Ending C) (m n : ℕ) → Ends kind halves rule entered t c e m → Ends kind halves rule entered t c f n → (e ≡ f) × (m ≡ n)

@@ -36,8 +36,8 @@ module _ (all : List (Result (Unit {0}) Fault)) (before text : List ℕ) (t : To
       ∙ ap (λ b. b ∷ answers (line_after s (i + 1) (told x)) (i + 1 + 1) (map told (drop (i + 1) xs))) (sym (answer ∙ ap (λ k. line_answer s k (told x)) n))
       ∙ ap (λ r. a ∷ answers r (i + 1 + 1) (map told (drop (i + 1) xs))) (sym (after ∙ ap (λ k. line_after s k (told x)) n))
 
-  pub running_more : (text' : List ℕ) (t' : Totals) → text' ≡ text ++ answer_text a → t'.lines ≡ t.lines + 1 → t'.refused ≡ t.refused + refusal a → Running all before text' t' s' (i + 1) xs
-  running_more text' t' e l r =
+  pub running-more : (text' : List ℕ) (t' : Totals) → text' ≡ text ++ answer_text a → t'.lines ≡ t.lines + 1 → t'.refused ≡ t.refused + refusal a → Running all before text' t' s' (i + 1) xs
+  running-more text' t' e l r =
       record {
         text = ap (λ y. y ++ answers_text (to_come s' (i + 1) xs)) e ∙ append_assoc text (answer_text a) _ ∙ ap (λ as'. text ++ answers_text as') (sym more) ∙ so_far.text;
         lines = l ∙ ap (λ n. n + 1) so_far.lines;

@@ -9,7 +9,7 @@ use Rattle.meaning.specs.Resting.{Widest, NoneRests}
 use Rattle.meaning.specs.Search.{change, FirstOpen, Ending, found, none, spent, deep, Stage, node, half, Seek, all-single, no-cut-left, no-row-left, in-first, in-second, turn-back, child}
 use Rattle.meaning.proofs.Laws.{LawfulHalves}
 use Rattle.meaning.proofs.Rows.{total, row-falls, single-or-open, open-once, open-not-single, change-lower}
-use Rattle.meaning.proofs.Resting.{widest-once, some_or_none}
+use Rattle.meaning.proofs.Resting.{widest-once, some-or-none}
 use Rattle.meaning.proofs.Searches.{clash, limited}
 
 module _ {C V T B R : Type 0} {kind : Domain.Ghosts C V T} {halves : Halves.Ghosts C V T} {rule : Propagator.Ghosts R C B V T} {book : B} (l : LawfulHalves kind halves rule book)
@@ -47,18 +47,18 @@ module _ {C V T B R : Type 0} {kind : Domain.Ghosts C V T} {halves : Halves.Ghos
     one : From half (k + 1) (d + 1) (change halves.first Q i) e₁ m
     two : ((e₁ ≡ none → ⊥) × (e₁ ≡ e) × (m ≡ c)) ⊎ ((e₁ ≡ none) × From half m (d + 1) (change halves.second Q i) e c)
 
-  at_cut : {k d c : ℕ} {Q : List C} {e : Ending C} (i : ℕ) → FirstOpen kind.height Q i → k < cut_limit → d < row_limit → From node k d Q e c → Cut k d Q i e c
-  at_cut i o x y (all-single {Q = Q} t) = absurd (open-not-single kind.height Q i o t)
-  at_cut i o x y (no-cut-left j f g) = absurd (omega arith)
-  at_cut i o x y (no-row-left j f a g) = absurd (omega arith)
-  at_cut i o x y (in-first {k = k} {d = d} {c = c} j {Q = Q} {e = e} f a b t n) =
+  at-cut : {k d c : ℕ} {Q : List C} {e : Ending C} (i : ℕ) → FirstOpen kind.height Q i → k < cut_limit → d < row_limit → From node k d Q e c → Cut k d Q i e c
+  at-cut i o x y (all-single {Q = Q} t) = absurd (open-not-single kind.height Q i o t)
+  at-cut i o x y (no-cut-left j f g) = absurd (omega arith)
+  at-cut i o x y (no-row-left j f a g) = absurd (omega arith)
+  at-cut i o x y (in-first {k = k} {d = d} {c = c} j {Q = Q} {e = e} f a b t n) =
       subst (λ p. Cut k d Q p e c) (open-once kind.height Q j i f o) (record { e₁ = e; m = c; one = t; two = inl (n, refl, refl) })
-  at_cut i o x y (in-second {k = k} {d = d} {m = m} {c = c} j {Q = Q} {e = e} f a b t u) =
+  at-cut i o x y (in-second {k = k} {d = d} {m = m} {c = c} j {Q = Q} {e = e} f a b t u) =
       subst (λ p. Cut k d Q p e c) (open-once kind.height Q j i f o) (record { e₁ = none; m = m; one = t; two = inr (refl, u) })
 
-  at_dead : {k d c : ℕ} {P : List C} {e : Ending C} → NoneRests kind rule book rules P → From half k d P e c → (none ≡ e) × (k ≡ c)
-  at_dead n (turn-back z) = (refl, refl)
-  at_dead n (child {Q = Q} w t) = absurd (n Q w.inside w.rests)
+  at-dead : {k d c : ℕ} {P : List C} {e : Ending C} → NoneRests kind rule book rules P → From half k d P e c → (none ≡ e) × (k ≡ c)
+  at-dead n (turn-back z) = (refl, refl)
+  at-dead n (child {Q = Q} w t) = absurd (n Q w.inside w.rests)
 
   -- where the child of a half is known, its search is the half's
   pub at-child : {k d c : ℕ} {P Q : List C} {e : Ending C} → Widest kind rule book rules P Q → From half k d P e c → From node k d Q e c
@@ -70,14 +70,14 @@ module _ {C V T B R : Type 0} {kind : Domain.Ghosts C V T} {halves : Halves.Ghos
   seek-once (no-cut-left i f g) z = at-spent i f g z
   seek-once (no-row-left i f a g) z = at-deep i f a g z
   seek-once (in-first i f a b t n) z =
-      let h = at_cut i f a b z in
+      let h = at-cut i f a b z in
       let q = seek-once t h.one in
       elim h.two [ inl x ↦ (q.0 ∙ x.1, q.1 ∙ x.2) | inr x ↦ absurd (n (q.0 ∙ x.0)) ]
   seek-once {d = d} {c' = c'} {e' = e'} (in-second i {Q = Q} f a b t u) z =
-      let h = at_cut i f a b z in
+      let h = at-cut i f a b z in
       let q = seek-once t h.one in
       elim h.two [ inl x ↦ absurd (x.0 (sym q.0)) | inr x ↦ seek-once u (subst (λ y. From half y (d + 1) (change halves.second Q i) e' c') (sym q.1) x.1) ]
-  seek-once (turn-back n) z = at_dead n z
+  seek-once (turn-back n) z = at-dead n z
   seek-once (child w t) z = seek-once t (at-child w z)
 
   -- ---- every search ends
@@ -87,7 +87,7 @@ module _ {C V T B R : Type 0} {kind : Domain.Ghosts C V T} {halves : Halves.Ghos
 
   -- a half ends if its child does
   half-ends : (k d : ℕ) (P : List C) → ((Q : List C) → Inside kind.allows Q P → Ended node k d Q) → Ended half k d P
-  half-ends k d P f = elim (some_or_none l.lawful rules P) [
+  half-ends k d P f = elim (some-or-none l.lawful rules P) [
     | inl t ↦ let x = f t.0 t.1.inside in (x.0, x.1, child t.1 x.2)
     | inr n ↦ (none, k, turn-back n)
   ]

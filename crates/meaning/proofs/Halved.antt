@@ -2,7 +2,7 @@
 use Rattle.std.proofs.Common.{◌≡◌, ℕ, zero, suc, ◌+◌, ◌*◌, ◌<◌, ◌≤◌, ◌⊎◌, List, [], ◌∷◌, sym, refl, ap, ◌∙◌, subst, ap₂, inl, inr, add-mul, mul-le-mul, mul-pos, mul-add, arith}
 use Rattle.domain.specs.declared.kind.Domain as Domain
 use Rattle.domain.specs.declared.kind.Halves as Halves
-use Rattle.domain.proofs.Counts.{joined, counted, no_more, count-unique, some-counted}
+use Rattle.domain.proofs.Counts.{joined, counted, no-more, count-unique, some-counted}
 use Rattle.engine.specs.declared.propagator.Propagator as Propagator
 use Rattle.engine.specs.Rows.{Inside, Chosen}
 use Rattle.meaning.specs.Search.{change, FirstOpen}
@@ -50,7 +50,7 @@ module _ {C V T B R : Type 0} {kind : Domain.Ghosts C V T} {halves : Halves.Ghos
   fewer-choices [] (q ∷ qs) m n i a b = absurd i
   fewer-choices (p ∷ ps) [] m n i a b = absurd i
   fewer-choices (p ∷ ps) (q ∷ qs) m n i a b =
-      let h = mul-le-mul (no_more l.lawful.bounds l.lawful.heights l.split p q a.0 b.0 i.0 a.2 b.2) (fewer-choices ps qs a.1 b.1 i.1 a.3 b.3) in
+      let h = mul-le-mul (no-more l.lawful.bounds l.lawful.heights l.split p q a.0 b.0 i.0 a.2 b.2) (fewer-choices ps qs a.1 b.1 i.1 a.3 b.3) in
       omega (arith, a.4, b.4)
 
   -- as many as both halves together

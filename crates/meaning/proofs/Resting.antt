@@ -2,11 +2,11 @@
 use Rattle.std.proofs.Common.{◌≡◌, ℕ, zero, suc, ◌<◌, ◌⊎◌, ◌↔◌, List, [], ◌∷◌, ◌++◌, Some, None, sym, refl, ap, ◌∙◌, subst, inl, inr, arith}
 use Rattle.domain.specs.declared.kind.Domain as Domain
 use Rattle.domain.specs.Counted.{In}
-use Rattle.domain.specs.Options.{none-some, some_is, answered}
+use Rattle.domain.specs.Options.{none-some, some-is, answered}
 use Rattle.engine.specs.declared.propagator.Propagator as Propagator
 use Rattle.engine.specs.Rows.{Inside, Chosen}
 use Rattle.engine.specs.Fits.{Fits}
-use Rattle.engine.proofs.Rows.{inside-self, inside-chosen, rows_same}
+use Rattle.engine.proofs.Rows.{inside-self, inside-chosen, rows-same}
 use Rattle.engine.proofs.Fitting.{rests-added, rests-fewer}
 use Rattle.meaning.specs.Resting.{Rests, Widest, NoneRests, Among, SameRules}
 use Rattle.meaning.specs.Matches.{WholeMatch}
@@ -15,7 +15,7 @@ use Rattle.meaning.proofs.Rows.{total, inside-trans, inside-added, inside-parted
 
 module _ {C V T B R : Type 0} {kind : Domain.Ghosts C V T} {rule : Propagator.Ghosts R C B V T} {book : B} (l : Lawful kind rule book) where
   pub widest-once : (rules : List R) (from out other : List C) → Widest kind rule book rules from out → Widest kind rule book rules from other → out ≡ other
-  widest-once rules from out other w x = rows_same l.bounds out other (x.widest out w.inside w.rests) (w.widest other x.inside x.rests)
+  widest-once rules from out other w x = rows-same l.bounds out other (x.widest out w.inside w.rests) (w.widest other x.inside x.rests)
 
   -- ---- other rules, and further ones
 
@@ -77,8 +77,8 @@ module _ {C V T B R : Type 0} {kind : Domain.Ghosts C V T} {rule : Propagator.Gh
       pub none : NoneRests kind rule book rules from
       pub no-match : (vs : List V) → WholeMatch kind rule book rules from vs → ⊥
 
-    pub held_first : Holding from
-    held_first = record { inside = inside-self kind.allows from; widest = λ P a f. a; keeps = λ vs m. m.within }
+    pub held-first : Holding from
+    held-first = record { inside = inside-self kind.allows from; widest = λ P a f. a; keeps = λ vs m. m.within }
 
     pub held-rests : (row : List C) → Holding row → Rests kind rule book rules row → Widest kind rule book rules from row
     held-rests row h f = record { inside = h.inside; rests = f; widest = h.widest }
@@ -97,7 +97,7 @@ module _ {C V T B R : Type 0} {kind : Domain.Ghosts C V T} {rule : Propagator.Gh
       pub held-narrowed : (row' : List C) → rule.narrowed book r row ≡ Some row' → Holding row'
       held-narrowed row' e = record {
         inside = inside-trans kind.allows row' row from ((l.narrowing r).inside row row' e) h.inside;
-        widest = λ P a f. let t = through P a f in subst (Inside kind.allows P) (some_is (sym t.1 ∙ e)) t.2;
+        widest = λ P a f. let t = through P a f in subst (Inside kind.allows P) (some-is (sym t.1 ∙ e)) t.2;
         keeps = λ vs m. (l.relation r).keeps row row' vs (h.keeps vs m) (m.meets r i) e;
       }
 
@@ -134,10 +134,10 @@ module _ {C V T B R : Type 0} {kind : Domain.Ghosts C V T} {rule : Propagator.Gh
     ]
 
     settled : Settled
-    settled = settle (suc (total kind.height from)) from held_first (omega arith)
+    settled = settle (suc (total kind.height from)) from held-first (omega arith)
 
-    pub some_or_none : ((out : List C) × Widest kind rule book rules from out) ⊎ NoneRests kind rule book rules from
-    some_or_none = elim settled [ inl t ↦ inl (t.0, t.1) | inr d ↦ inr d.none ]
+    pub some-or-none : ((out : List C) × Widest kind rule book rules from out) ⊎ NoneRests kind rule book rules from
+    some-or-none = elim settled [ inl t ↦ inl (t.0, t.1) | inr d ↦ inr d.none ]
 
     -- ---- whole matches
 

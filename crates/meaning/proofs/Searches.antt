@@ -76,20 +76,20 @@ module _ {C V T B R : Type 0} {kind : Domain.Ghosts C V T} {halves : Halves.Ghos
   Ready half P = Unit {0}
 
   -- the row found is single, inside, and rests
-  pub found_inside : {s : Stage} {k d c : ℕ} {P : List C} {e : Ending C} → From s k d P e c → Ready s P → (S : List C) → e ≡ found S →
+  pub found-inside : {s : Stage} {k d c : ℕ} {P : List C} {e : Ending C} → From s k d P e c → Ready s P → (S : List C) → e ≡ found S →
       AllSingle kind.height S × Inside kind.allows S P × Rests kind rule book rules S
-  found_inside (all-single {Q = Q} s) r S e =
+  found-inside (all-single {Q = Q} s) r S e =
       let q : Q ≡ S = cc in subst (λ X. AllSingle kind.height X × Inside kind.allows X Q × Rests kind rule book rules X) q (s, inside-self kind.allows Q, r)
-  found_inside (no-cut-left i f g) r S e = clash (cc)
-  found_inside (no-row-left i f a g) r S e = clash (cc)
-  found_inside (in-first i {Q = Q} f a b t n) r S e =
-      let h = found_inside t tt S e in
+  found-inside (no-cut-left i f g) r S e = clash (cc)
+  found-inside (no-row-left i f a g) r S e = clash (cc)
+  found-inside (in-first i {Q = Q} f a b t n) r S e =
+      let h = found-inside t tt S e in
       (h.0, inside-trans kind.allows S (change halves.first Q i) Q h.1 (change-inside kind.height kind.allows halves.first l.split.first-inside Q i f), h.2)
-  found_inside (in-second i {Q = Q} f a b t u) r S e =
-      let h = found_inside u tt S e in
+  found-inside (in-second i {Q = Q} f a b t u) r S e =
+      let h = found-inside u tt S e in
       (h.0, inside-trans kind.allows S (change halves.second Q i) Q h.1 (change-inside kind.height kind.allows halves.second l.split.second-inside Q i f), h.2)
-  found_inside (turn-back n) r S e = clash (cc)
-  found_inside (child {P = P} {Q = Q} w t) r S e = let h = found_inside t w.rests S e in (h.0, inside-trans kind.allows S Q P h.1 w.inside, h.2)
+  found-inside (turn-back n) r S e = clash (cc)
+  found-inside (child {P = P} {Q = Q} w t) r S e = let h = found-inside t w.rests S e in (h.0, inside-trans kind.allows S Q P h.1 w.inside, h.2)
 
   -- a whole match is in one half
   half-match : (P : List C) (i : ℕ) (vs : List V) → FirstOpen kind.height P i → WholeMatch kind rule book rules P vs →
@@ -110,22 +110,22 @@ module _ {C V T B R : Type 0} {kind : Domain.Ghosts C V T} {halves : Halves.Ghos
   none-matches (child {P = P} {Q = Q} w t) e vs m = none-matches t e vs (match-kept l.lawful rules P Q vs w m)
 
   -- each other whole match comes after the one that is found
-  pub found_first : {s : Stage} {k d c : ℕ} {P : List C} {e : Ending C} → From s k d P e c → (S : List C) → e ≡ found S → (vs : List V) → Chosen kind.allows S vs →
+  pub found-first : {s : Stage} {k d c : ℕ} {P : List C} {e : Ending C} → From s k d P e c → (S : List C) → e ≡ found S → (vs : List V) → Chosen kind.allows S vs →
       (ws : List V) → WholeMatch kind rule book rules P ws → (ws ≡ vs) ⊎ Earlier halves.before vs ws
-  found_first (all-single {Q = Q} s) S e vs x ws m = let q : S ≡ Q = cc in inl (singles-one l.lawful.heights Q ws vs s m.within (subst (λ X. Chosen kind.allows X vs) q x))
-  found_first (no-cut-left i f g) S e vs x ws m = clash (cc)
-  found_first (no-row-left i f a g) S e vs x ws m = clash (cc)
-  found_first (in-first i {Q = Q} f a b t n) S e vs x ws m = elim (half-match Q i ws f m) [
-    | inl y ↦ found_first t S e vs x ws y
-    | inr y ↦ inr (first-earlier l Q i vs ws f (inside-chosen kind.allows S (change halves.first Q i) vs (found_inside t tt S e).1 x) y.within)
+  found-first (all-single {Q = Q} s) S e vs x ws m = let q : S ≡ Q = cc in inl (singles-one l.lawful.heights Q ws vs s m.within (subst (λ X. Chosen kind.allows X vs) q x))
+  found-first (no-cut-left i f g) S e vs x ws m = clash (cc)
+  found-first (no-row-left i f a g) S e vs x ws m = clash (cc)
+  found-first (in-first i {Q = Q} f a b t n) S e vs x ws m = elim (half-match Q i ws f m) [
+    | inl y ↦ found-first t S e vs x ws y
+    | inr y ↦ inr (first-earlier l Q i vs ws f (inside-chosen kind.allows S (change halves.first Q i) vs (found-inside t tt S e).1 x) y.within)
   ]
-  found_first (in-second i {Q = Q} f a b t u) S e vs x ws m = elim (half-match Q i ws f m) [ inl y ↦ absurd (none-matches t refl ws y) | inr y ↦ found_first u S e vs x ws y ]
-  found_first (turn-back n) S e vs x ws m = clash (cc)
-  found_first (child {P = P} {Q = Q} w t) S e vs x ws m = found_first t S e vs x ws (match-kept l.lawful rules P Q ws w m)
+  found-first (in-second i {Q = Q} f a b t u) S e vs x ws m = elim (half-match Q i ws f m) [ inl y ↦ absurd (none-matches t refl ws y) | inr y ↦ found-first u S e vs x ws y ]
+  found-first (turn-back n) S e vs x ws m = clash (cc)
+  found-first (child {P = P} {Q = Q} w t) S e vs x ws m = found-first t S e vs x ws (match-kept l.lawful rules P Q ws w m)
 
   pub found-match : {s : Stage} {k d c : ℕ} {P : List C} (S : List C) → From s k d P (found S) c → Ready s P → (vs : List V) × Only kind S vs × FirstMatch kind halves rule book rules P vs
   found-match {P = P} S t r =
-      let h = found_inside t r S refl in
+      let h = found-inside t r S refl in
       let c = sample-chosen kind.allows l.lawful.bounds.some S in (
         _,
         record { allowed = c; alone = λ ws x. singles-one l.lawful.heights S ws _ h.0 x c },
@@ -134,7 +134,7 @@ module _ {C V T B R : Type 0} {kind : Domain.Ghosts C V T} {halves : Halves.Ghos
             within = inside-chosen kind.allows S P _ h.1 c;
             meets = λ r i. (l.lawful.relation r).exact S S _ c (single-named kind.height (rule.names r) S h.0) (h.2 r i);
           };
-          first = found_first t S refl _ c;
+          first = found-first t S refl _ c;
         },
       )
 

@@ -8,16 +8,16 @@ use Rattle.meaning.specs.Matches.{WholeMatch}
 use Rattle.meaning.specs.Search.{Ending, found, none, spent, deep, node, Seek}
 use Rattle.meaning.specs.Theorems.{RestingTheorems, SearchTheorems}
 use Rattle.meaning.proofs.Laws.{Lawful, LawfulHalves}
-use Rattle.meaning.proofs.Resting.{widest-once, widest-same, none-same, widest-further, none-further, widest-added, some_or_none, match-kept, no-match, match-wider}
+use Rattle.meaning.proofs.Resting.{widest-once, widest-same, none-same, widest-further, none-further, widest-added, some-or-none, match-kept, no-match, match-wider}
 use Rattle.meaning.proofs.Halved.{choices-counted, choices-once}
 use Rattle.meaning.proofs.Searches.{few-cuts, limited, spent-at, deep-at, none-matches, found-match, seek-same}
 use Rattle.meaning.proofs.Endings.{seek-once, seek-ends}
 
 pub resting-theorems : {C V T B R : Type 0} {kind : Domain.Ghosts C V T} {rule : Propagator.Ghosts R C B V T} {book : B} → Lawful kind rule book → RestingTheorems kind rule book
 resting-theorems l = record {
-  some_or_none = some_or_none l;
+  some-or-none = some-or-none l;
   one-widest = widest-once l;
-  any_order = widest-same l;
+  any-order = widest-same l;
   any-order-none = none-same l;
   further = widest-further l;
   further-none = none-further l;
@@ -47,5 +47,5 @@ module _ {C V T B R : Type 0} {kind : Domain.Ghosts C V T} {halves : Halves.Ghos
     limited = λ rules cut_limit row_limit cuts root e t. limited l rules cut_limit row_limit t (omega arith);
     spent-at = λ rules cut_limit row_limit cuts root t. spent-at l rules cut_limit row_limit t refl;
     deep-at = λ rules cut_limit row_limit cuts root t. let h = deep-at l rules cut_limit row_limit t refl in (h.0, omega arith);
-    any_order = λ rules others s cut_limit row_limit cuts root e t. seek-same l rules cut_limit row_limit others s t;
+    any-order = λ rules others s cut_limit row_limit cuts root e t. seek-same l rules cut_limit row_limit others s t;
   }

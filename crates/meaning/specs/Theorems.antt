@@ -12,11 +12,11 @@ use Rattle.meaning.specs.Search.{Ending, found, none, spent, deep, Searched}
 -- Of resting bounds. No order of values is asked for.
 pub record RestingTheorems {C V T B R : Type 0} (kind : Domain.Ghosts C V T) (rule : Propagator.Ghosts R C B V T) (book : B) : Type 0 where
   -- within any bounds there are widest resting ones, or none rest
-  pub some_or_none : (rules : List R) (from : List C) → ((out : List C) × Widest kind rule book rules from out) ⊎ NoneRests kind rule book rules from
+  pub some-or-none : (rules : List R) (from : List C) → ((out : List C) × Widest kind rule book rules from out) ⊎ NoneRests kind rule book rules from
   -- there is but one widest
   pub one-widest : (rules : List R) (from out other : List C) → Widest kind rule book rules from out → Widest kind rule book rules from other → out ≡ other
   -- the order of the rules has no part, nor whether one is there twice
-  pub any_order : (rules others : List R) → SameRules rules others → (from out : List C) → Widest kind rule book rules from out → Widest kind rule book others from out
+  pub any-order : (rules others : List R) → SameRules rules others → (from out : List C) → Widest kind rule book rules from out → Widest kind rule book others from out
   pub any-order-none : (rules others : List R) → SameRules rules others → (from : List C) → NoneRests kind rule book rules from → NoneRests kind rule book others from
   -- further rules make of the standing bounds what they make of the declared ones
   pub further : (rules more : List R) → Among rules more → (from standing out : List C) → Widest kind rule book rules from standing → Widest kind rule book more standing out ↔ Widest kind rule book more from out
@@ -49,5 +49,5 @@ pub record SearchTheorems {C V T B R : Type 0} (kind : Domain.Ghosts C V T) (hal
   pub spent-at : (rules : List R) (cut_limit row_limit cuts : ℕ) (root : List C) → Searched kind halves rule book rules cut_limit row_limit root spent cuts → cuts ≡ cut_limit
   pub deep-at : (rules : List R) (cut_limit row_limit cuts : ℕ) (root : List C) → Searched kind halves rule book rules cut_limit row_limit root deep cuts → (cuts < cut_limit) × (row_limit ≤ cuts)
   -- the order of the rules has no part
-  pub any_order : (rules others : List R) → SameRules rules others → (cut_limit row_limit cuts : ℕ) (root : List C) (e : Ending C) →
+  pub any-order : (rules others : List R) → SameRules rules others → (cut_limit row_limit cuts : ℕ) (root : List C) (e : Ending C) →
       Searched kind halves rule book rules cut_limit row_limit root e cuts → Searched kind halves rule book others cut_limit row_limit root e cuts

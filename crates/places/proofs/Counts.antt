@@ -37,8 +37,8 @@ pub ones-mono : (a b : ℕ) → Sub a b → ones a ≤ ones b
 ones-mono a b s = omega (arith, ones-part a b s)
 
 -- none counted, none there
-pub ones_none : (n : ℕ) → ones n ≡ 0 → n ≡ 0
-ones_none n e = bin_ind (λ n. ones n ≡ 0 → n ≡ 0) (λ e. refl)
+pub ones-none : (n : ℕ) → ones n ≡ 0 → n ≡ 0
+ones-none n e = bin_ind (λ n. ones n ≡ 0 → n ≡ 0) (λ e. refl)
     (λ n ih e. let s = ones_step n in let q : ones (n / 2) ≡ 0 = omega arith in omega (arith, ih q)) n e
 
 pub ones-of-none : ones 0 ≡ 0
@@ -51,7 +51,7 @@ ones-more a b s n = elim (dec_lt (ones a) (ones b)) [
   | yes l ↦ l
   | no g ↦ (let e = ones-part a b s in
       let z : ones (minus b a) ≡ 0 = omega arith in
-      absurd (n (sub-both a b s (back (ones_none (minus b a) z)))))
+      absurd (n (sub-both a b s (back (ones-none (minus b a) z)))))
 ]
   where
     last : (x y : Bool) → (y && not x) ≡ false → T y → T x

@@ -8,8 +8,8 @@ use lib.Dec.{eqb_refl}
 use Rattle.places.specs.Members.{has, holds, one, minus, Sub}
 use Rattle.places.specs.Lowest.{First, lowest}
 use Rattle.places.specs.Tables.{◌⇒◌, agree}
-use Rattle.places.proofs.Tables.{table, agree-eq, eq-agree, follows, and_right, and_both, and-true, both_ways}
-use Rattle.places.proofs.Members.{has-none, has-and, has-minus, same-places, sub_of, of-sub, minus-sub, sub-union}
+use Rattle.places.proofs.Tables.{table, agree-eq, eq-agree, follows, and-right, and-both, and-true, both-ways}
+use Rattle.places.proofs.Members.{has-none, has-and, has-minus, same-places, sub-of, of-sub, minus-sub, sub-union}
 
 -- what `trailing_zeros` finds, by the lowest digit d
 low-in : (d k n : ℕ) → d < 2 → d ≡ n % 2 → (0 < n / 2 → T (has (count_trailing_zeros k (n / 2)) (n / 2))) → 0 < n → T (has (under d (count_trailing_zeros k (n / 2))) n)
@@ -36,22 +36,22 @@ none-lower zero n j l = absurd (not-suc-le-zero l)
 none-lower (suc w) n j l = none-under (n % 2) (count_trailing_zeros w (n / 2)) j n (mod-lt n (zero-lt-suc 1)) refl (λ i. none-lower w (n / 2) i) l
 
 -- the set of the one place k
-pub has_one : (j k : ℕ) → has j (2 ^ k) ≡ eqb j k
-has_one zero zero = refl
-has_one zero (suc k) =
+pub has-one : (j k : ℕ) → has j (2 ^ k) ≡ eqb j k
+has-one zero zero = refl
+has-one zero (suc k) =
     let s = pow-suc 2 k in
     let e : (2 ^ suc k) % 2 ≡ 0 = omega arith in
     ap (λ x. eqb x 1) e ∙ sym (eqb-zero-suc k)
-has_one (suc j) zero = has-none j ∙ sym (eqb-suc-zero j)
-has_one (suc j) (suc k) =
+has-one (suc j) zero = has-none j ∙ sym (eqb-suc-zero j)
+has-one (suc j) (suc k) =
     let s = pow-suc 2 k in
     let e : (2 ^ suc k) / 2 ≡ 2 ^ k = omega arith in
-    ap (has j) e ∙ has_one j k ∙ sym (eqb-suc-suc j k)
+    ap (has j) e ∙ has-one j k ∙ sym (eqb-suc-suc j k)
 
 pub has-one-place : (p q : ℕ) → 1 ≤ p → holds q (one p) ≡ eqb q p
 has-one-place zero q h = absurd (not-suc-le-zero h)
 has-one-place (suc k) zero h = sym (eqb-zero-suc k)
-has-one-place (suc k) (suc j) h = let e : suc k - 1 ≡ k = omega arith in ap (λ x. has j (2 ^ x)) e ∙ has_one j k ∙ sym (eqb-suc-suc j k)
+has-one-place (suc k) (suc j) h = let e : suc k - 1 ≡ k = omega arith in ap (λ x. has j (2 ^ x)) e ∙ has-one j k ∙ sym (eqb-suc-suc j k)
 
 -- ---- `n & (n - 1)`: all of n but its lowest place
 
@@ -88,11 +88,11 @@ pub has-lowest : (w n j : ℕ) → 0 < n → n < 2 ^ w → has j (lowest n) ≡ 
 has-lowest w n j p h =
     has-minus j n (n - 1)
     ∙ agree-eq _ _ (follows _ _ (other-side (has j n) (has j (n - 1)) (eqb j (count_trailing_zeros w n))) (eq-agree _ _ (sym (has-and j n (n - 1)) ∙ has-clear w n j p h)))
-    ∙ both_ways _ _ (and_right (has j n) _) (λ t. and_both _ _ (subst (λ x. T (has x n)) (sym (eqb→eq j _ t)) (lowest-in w n p h)) t)
+    ∙ both-ways _ _ (and-right (has j n) _) (λ t. and-both _ _ (subst (λ x. T (has x n)) (sym (eqb→eq j _ t)) (lowest-in w n p h)) t)
 
 -- the lowest place and no other
 pub lowest-is : (w n : ℕ) → 0 < n → n < 2 ^ w → lowest n ≡ 2 ^ count_trailing_zeros w n
-lowest-is w n p h = same-places _ _ (λ j. has-lowest w n j p h ∙ sym (has_one j (count_trailing_zeros w n)))
+lowest-is w n p h = same-places _ _ (λ j. has-lowest w n j p h ∙ sym (has-one j (count_trailing_zeros w n)))
 
 pub lowest-sub : (n : ℕ) → Sub (lowest n) n
 lowest-sub n = minus-sub n (n - 1)
@@ -135,8 +135,8 @@ first-lowest k n f = elim (eq-zero-or-pos n) [
 -- ---- the lowest place of p that s lacks, where s lies within p
 
 pub with-lowest : (s p : ℕ) → bit_and s p ≡ s → bit_and (bit_or s (lowest (minus p s))) p ≡ bit_or s (lowest (minus p s))
-with-lowest s p e = of-sub _ _ (sub-union s (lowest (minus p s)) p (sub_of s p e) (λ k t. minus-sub p s k (lowest-sub (minus p s) k t)))
+with-lowest s p e = of-sub _ _ (sub-union s (lowest (minus p s)) p (sub-of s p e) (λ k t. minus-sub p s k (lowest-sub (minus p s) k t)))
 
 pub without-lowest : (s p : ℕ) → bit_and s p ≡ s → bit_and s (minus p (lowest (minus p s))) ≡ s
-without-lowest s p e = of-sub _ _ (λ k t. subst T (sym (has-minus k p (lowest (minus p s)))) (and_both _ _ (sub_of s p e k t)
-    (not_T _ (λ l. T_not _ (and_right (has k p) _ (subst T (has-minus k p s) (lowest-sub (minus p s) k l))) t))))
+without-lowest s p e = of-sub _ _ (λ k t. subst T (sym (has-minus k p (lowest (minus p s)))) (and-both _ _ (sub-of s p e k t)
+    (not_T _ (λ l. T_not _ (and-right (has k p) _ (subst T (has-minus k p s) (lowest-sub (minus p s) k l))) t))))

@@ -6,10 +6,10 @@ use lib.Dec.{leb-suc-suc, not_T, eqb_refl}
 use native.Mathlib.Decide.{dec_lt}
 use Rattle.places.specs.Members.{has, holds, minus, Sub, subset}
 use Rattle.places.specs.Tables.{differ}
-use Rattle.places.proofs.Tables.{and_left, and_right, and_both, and-true, or_left, or_right, or_cases, both_ways}
+use Rattle.places.proofs.Tables.{and-left, and-right, and-both, and-true, or-left, or-right, or-cases, both-ways}
 
-low_digit : (n : ℕ) → n % 2 < 2
-low_digit n = mod-lt n (zero-lt-suc 1)
+low-digit : (n : ℕ) → n % 2 < 2
+low-digit n = mod-lt n (zero-lt-suc 1)
 
 over {ℓ} : {A : Type ℓ} {x : ℕ} → suc (suc x) < 2 → A
 over h = absurd (not-suc-le-zero (le_of_suc-le-suc (le_of_suc-le-suc h)))
@@ -35,25 +35,25 @@ xor-digit (suc zero) (suc zero) hx hy = refl
 xor-digit (suc zero) (suc (suc y)) hx hy = over hy
 xor-digit (suc (suc x)) y hx hy = over hx
 
-bit_inj : (x y : ℕ) → x < 2 → y < 2 → eqb x 1 ≡ eqb y 1 → x ≡ y
-bit_inj zero zero hx hy e = refl
-bit_inj zero (suc zero) hx hy e = absurd (subst T (sym e) tt)
-bit_inj zero (suc (suc y)) hx hy e = over hy
-bit_inj (suc zero) zero hx hy e = absurd (subst T e tt)
-bit_inj (suc zero) (suc zero) hx hy e = refl
-bit_inj (suc zero) (suc (suc y)) hx hy e = over hy
-bit_inj (suc (suc x)) y hx hy e = over hx
+bit-inj : (x y : ℕ) → x < 2 → y < 2 → eqb x 1 ≡ eqb y 1 → x ≡ y
+bit-inj zero zero hx hy e = refl
+bit-inj zero (suc zero) hx hy e = absurd (subst T (sym e) tt)
+bit-inj zero (suc (suc y)) hx hy e = over hy
+bit-inj (suc zero) zero hx hy e = absurd (subst T e tt)
+bit-inj (suc zero) (suc zero) hx hy e = refl
+bit-inj (suc zero) (suc (suc y)) hx hy e = over hy
+bit-inj (suc (suc x)) y hx hy e = over hx
 
 pub has-and : (k a b : ℕ) → has k (bit_and a b) ≡ (has k a && has k b)
-has-and zero a b = ap (λ (x : ℕ). eqb x 1) (and_mod a b 1) ∙ and-digit (a % 2) (b % 2) (low_digit a) (low_digit b)
+has-and zero a b = ap (λ (x : ℕ). eqb x 1) (and_mod a b 1) ∙ and-digit (a % 2) (b % 2) (low-digit a) (low-digit b)
 has-and (suc k) a b = ap (has k) (and_shr a b 1) ∙ has-and k (a / 2) (b / 2)
 
 pub has-or : (k a b : ℕ) → has k (bit_or a b) ≡ (has k a || has k b)
-has-or zero a b = ap (λ (x : ℕ). eqb x 1) (or_mod a b 1) ∙ or-digit (a % 2) (b % 2) (low_digit a) (low_digit b)
+has-or zero a b = ap (λ (x : ℕ). eqb x 1) (or_mod a b 1) ∙ or-digit (a % 2) (b % 2) (low-digit a) (low-digit b)
 has-or (suc k) a b = ap (has k) (or_shr a b 1) ∙ has-or k (a / 2) (b / 2)
 
 pub has-xor : (k a b : ℕ) → has k (bit_xor a b) ≡ differ (has k a) (has k b)
-has-xor zero a b = ap (λ (x : ℕ). eqb x 1) (xor_mod a b 1) ∙ xor-digit (a % 2) (b % 2) (low_digit a) (low_digit b)
+has-xor zero a b = ap (λ (x : ℕ). eqb x 1) (xor_mod a b 1) ∙ xor-digit (a % 2) (b % 2) (low-digit a) (low-digit b)
 has-xor (suc k) a b = ap (has k) (xor_shr a b 1) ∙ has-xor k (a / 2) (b / 2)
 
 differ-and : (x y : Bool) → differ x (x && y) ≡ (x && not y)
@@ -68,50 +68,50 @@ has-none zero = refl
 has-none (suc k) = has-none k
 
 -- a set with no place is 0
-pub none_is : (n : ℕ) → ((k : ℕ) → has k n ≡ false) → n ≡ 0
-none_is =
+pub none-is : (n : ℕ) → ((k : ℕ) → has k n ≡ false) → n ≡ 0
+none-is =
     bin_ind (λ n. ((k : ℕ) → has k n ≡ false) → n ≡ 0) (λ h. refl)
     (λ n ih h.
     let hi : n / 2 ≡ 0 = ih (λ k. h (suc k)) in
-    let lo : n % 2 ≡ 0 = bit_inj (n % 2) 0 (low_digit n) (zero-lt-suc 1) (h zero) in
+    let lo : n % 2 ≡ 0 = bit-inj (n % 2) 0 (low-digit n) (zero-lt-suc 1) (h zero) in
     omega arith)
 
 -- two sets with the same places are one number
 pub same-places : (a b : ℕ) → ((k : ℕ) → has k a ≡ has k b) → a ≡ b
 same-places =
     bin_ind (λ n. (b : ℕ) → ((k : ℕ) → has k n ≡ has k b) → n ≡ b)
-    (λ b h. sym (none_is b (λ k. sym (h k) ∙ has-none k)))
+    (λ b h. sym (none-is b (λ k. sym (h k) ∙ has-none k)))
     (λ n ih b h.
     let hi : n / 2 ≡ b / 2 = ih (b / 2) (λ k. h (suc k)) in
-    let lo : n % 2 ≡ b % 2 = bit_inj (n % 2) (b % 2) (low_digit n) (low_digit b) (h zero) in
+    let lo : n % 2 ≡ b % 2 = bit-inj (n % 2) (b % 2) (low-digit n) (low-digit b) (h zero) in
     omega arith)
 
 -- a number of w bits has no place from w on
-pub has_above : (w k n : ℕ) → w ≤ k → n < 2 ^ w → has k n ≡ false
-has_above zero k n h f = let e : n ≡ 0 = omega arith in ap (has k) e ∙ has-none k
-has_above (suc w) zero n h f = absurd (not-suc-le-zero h)
-has_above (suc w) (suc k) n h f =
+pub has-above : (w k n : ℕ) → w ≤ k → n < 2 ^ w → has k n ≡ false
+has-above zero k n h f = let e : n ≡ 0 = omega arith in ap (has k) e ∙ has-none k
+has-above (suc w) zero n h f = absurd (not-suc-le-zero h)
+has-above (suc w) (suc k) n h f =
     let p = pow-suc 2 w in
     let g : n / 2 < 2 ^ w = omega arith in
-    has_above w k (n / 2) (le_of_suc-le-suc h) g
+    has-above w k (n / 2) (le_of_suc-le-suc h) g
 
 -- so a place of a number of w bits is below w
 pub place-below : (w k n : ℕ) → n < 2 ^ w → T (has k n) → k < w
-place-below w k n f t = elim (dec_lt k w) [ yes l ↦ l | no g ↦ (let l : w ≤ k = omega arith in absurd (subst T (has_above w k n l f) t)) ]
+place-below w k n f t = elim (dec_lt k w) [ yes l ↦ l | no g ↦ (let l : w ≤ k = omega arith in absurd (subst T (has-above w k n l f) t)) ]
 
 -- ---- subsets: an equation that a program tests, and what it says of each place
 
-and_fact : (x y : Bool) → (x && y) ≡ x → T x → T y
-and_fact true y e t = subst T (sym e) tt
-and_fact false y e t = absurd t
+and-fact : (x y : Bool) → (x && y) ≡ x → T x → T y
+and-fact true y e t = subst T (sym e) tt
+and-fact false y e t = absurd t
 
 fact-and : (x y : Bool) → (T x → T y) → (x && y) ≡ x
 fact-and true true f = refl
 fact-and true false f = absurd (f tt)
 fact-and false y f = refl
 
-pub sub_of : (a b : ℕ) → bit_and a b ≡ a → Sub a b
-sub_of a b e k = and_fact (has k a) (has k b) (sym (has-and k a b) ∙ ap (has k) e)
+pub sub-of : (a b : ℕ) → bit_and a b ≡ a → Sub a b
+sub-of a b e k = and-fact (has k a) (has k b) (sym (has-and k a b) ∙ ap (has k) e)
 
 pub of-sub : (a b : ℕ) → Sub a b → bit_and a b ≡ a
 of-sub a b s = same-places _ _ (λ k. has-and k a b ∙ fact-and (has k a) (has k b) (s k))
@@ -121,41 +121,41 @@ sub-le a b s = subst (λ x. x ≤ b) (of-sub a b s) (and_le_r a b)
 
 -- two sets, each within the other
 pub sub-both : (a b : ℕ) → Sub a b → Sub b a → a ≡ b
-sub-both a b f g = same-places a b (λ k. both_ways (has k a) (has k b) (f k) (g k))
+sub-both a b f g = same-places a b (λ k. both-ways (has k a) (has k b) (f k) (g k))
 
 pub and-sub : (a b : ℕ) → Sub (bit_and a b) a
-and-sub a b k t = and_left (has k a) (has k b) (subst T (has-and k a b) t)
+and-sub a b k t = and-left (has k a) (has k b) (subst T (has-and k a b) t)
 
 pub minus-sub : (a b : ℕ) → Sub (minus a b) a
-minus-sub a b k t = and_left (has k a) (not (has k b)) (subst T (has-minus k a b) t)
+minus-sub a b k t = and-left (has k a) (not (has k b)) (subst T (has-minus k a b) t)
 
 pub sub-union : (a b c : ℕ) → Sub a c → Sub b c → Sub (bit_or a b) c
-sub-union a b c f g k t = or_cases (has k a) (has k b) (f k) (g k) (subst T (has-or k a b) t)
+sub-union a b c f g k t = or-cases (has k a) (has k b) (f k) (g k) (subst T (has-or k a b) t)
 
-pub union_left : (a b c : ℕ) → Sub (bit_or a b) c → Sub a c
-union_left a b c f k t = f k (subst T (sym (has-or k a b)) (or_left _ _ t))
+pub union-left : (a b c : ℕ) → Sub (bit_or a b) c → Sub a c
+union-left a b c f k t = f k (subst T (sym (has-or k a b)) (or-left _ _ t))
 
-pub union_right : (a b c : ℕ) → Sub (bit_or a b) c → Sub b c
-union_right a b c f k t = f k (subst T (sym (has-or k a b)) (or_right _ _ t))
+pub union-right : (a b c : ℕ) → Sub (bit_or a b) c → Sub b c
+union-right a b c f k t = f k (subst T (sym (has-or k a b)) (or-right _ _ t))
 
 pub sub-intersection : (a b c : ℕ) → Sub c a → Sub c b → Sub c (bit_and a b)
-sub-intersection a b c f g k t = subst T (sym (has-and k a b)) (and_both _ _ (f k t) (g k t))
+sub-intersection a b c f g k t = subst T (sym (has-and k a b)) (and-both _ _ (f k t) (g k t))
 
 pub intersection-left : (a b c : ℕ) → Sub c (bit_and a b) → Sub c a
-intersection-left a b c f k t = and_left _ _ (subst T (has-and k a b) (f k t))
+intersection-left a b c f k t = and-left _ _ (subst T (has-and k a b) (f k t))
 
 pub intersection-right : (a b c : ℕ) → Sub c (bit_and a b) → Sub c b
-intersection-right a b c f k t = and_right (has k a) _ (subst T (has-and k a b) (f k t))
+intersection-right a b c f k t = and-right (has k a) _ (subst T (has-and k a b) (f k t))
 
 -- the test of a program
 pub subset-only : (a b : ℕ) → T (subset a b) → Sub a b
-subset-only a b t = sub_of a b (eqb→eq _ _ t)
+subset-only a b t = sub-of a b (eqb→eq _ _ t)
 
-pub eq_test : (m n : ℕ) → m ≡ n → T (eqb m n)
-eq_test m n e = subst (λ x. T (eqb m x)) e (eqb_refl m)
+pub eq-test : (m n : ℕ) → m ≡ n → T (eqb m n)
+eq-test m n e = subst (λ x. T (eqb m x)) e (eqb_refl m)
 
 pub subset-each : (a b : ℕ) → Sub a b → T (subset a b)
-subset-each a b s = eq_test _ _ (of-sub a b s)
+subset-each a b s = eq-test _ _ (of-sub a b s)
 
 -- a digit, as a program shifts it down
 pub has-shift : (k n : ℕ) → eqb ((n / 2 ^ k) % 2) 1 ≡ has k n
@@ -169,7 +169,7 @@ holds-shift (suc k) n h = let e : suc k - 1 ≡ k = omega arith in ap (λ x. eqb
 pub holds-outside : (w p n : ℕ) → n < 2 ^ w → (p < 1) ⊎ (w < p) → false ≡ holds p n
 holds-outside w zero n h o = refl
 holds-outside w (suc k) n h (inl l) = absurd (omega arith)
-holds-outside w (suc k) n h (inr l) = sym (has_above w k n (omega arith) h)
+holds-outside w (suc k) n h (inr l) = sym (has-above w k n (omega arith) h)
 
 -- a part and the rest
 pub union-minus : (a b : ℕ) → Sub a b → bit_or a (minus b a) ≡ b
@@ -181,8 +181,8 @@ union-minus a b s = same-places _ _ (λ k. has-or k a (minus b a) ∙ ap (λ x. 
     whole false true f = refl
     whole false false f = refl
 
-pub union_assoc : (a b c : ℕ) → bit_or (bit_or a b) c ≡ bit_or a (bit_or b c)
-union_assoc a b c = same-places _ _ (λ k.
+pub union-assoc : (a b c : ℕ) → bit_or (bit_or a b) c ≡ bit_or a (bit_or b c)
+union-assoc a b c = same-places _ _ (λ k.
     has-or k (bit_or a b) c ∙ ap (λ x. x || has k c) (has-or k a b) ∙ moved (has k a) (has k b) (has k c) ∙ ap (λ x. has k a || x) (sym (has-or k b c)) ∙ sym (has-or k a (bit_or b c)))
   where
     moved : (x y z : Bool) → ((x || y) || z) ≡ (x || (y || z))
@@ -220,7 +220,7 @@ minus-none n = same-places _ _ (λ k. has-minus k n 0 ∙ ap (λ x. has k n && n
 
 -- the places of a that b lacks
 pub minus-only : (k a b : ℕ) → T (has k (minus a b)) → T (has k a) × (T (has k b) → ⊥)
-minus-only k a b t = let x = subst T (has-minus k a b) t in (and_left _ _ x, T_not _ (and_right (has k a) _ x))
+minus-only k a b t = let x = subst T (has-minus k a b) t in (and-left _ _ x, T_not _ (and-right (has k a) _ x))
 
 pub minus-each : (k a b : ℕ) → T (has k a) → (T (has k b) → ⊥) → T (has k (minus a b))
-minus-each k a b t n = subst T (sym (has-minus k a b)) (and_both _ _ t (not_T _ n))
+minus-each k a b t n = subst T (sym (has-minus k a b)) (and-both _ _ t (not_T _ n))

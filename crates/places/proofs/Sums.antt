@@ -7,9 +7,9 @@ use lib.Dec.{not_T}
 use Rattle.places.specs.Members.{has, minus, Sub}
 use Rattle.places.specs.Lowest.{lowest}
 use Rattle.places.specs.Sums.{weigh, sieve}
-use Rattle.places.proofs.Tables.{and_left, and_right, and_both, and-true, and-false, both_ways}
-use Rattle.places.proofs.Members.{has-or, has-minus, has-none, has_above, same-places, union-minus, union_assoc, minus-only, minus-each}
-use Rattle.places.proofs.Lowest.{has_one, lowest-is, lowest-sub, clear-is}
+use Rattle.places.proofs.Tables.{and-left, and-right, and-both, and-true, and-false, both-ways}
+use Rattle.places.proofs.Members.{has-or, has-minus, has-none, has-above, same-places, union-minus, union-assoc, minus-only, minus-each}
+use Rattle.places.proofs.Lowest.{has-one, lowest-is, lowest-sub, clear-is}
 
 -- a place of c is a place of just one of a and b
 pub joins : Bool → Bool → Bool → Bool
@@ -64,17 +64,17 @@ weigh-none (w ∷ ws) = zero-add (weigh ws 0) ∙ weigh-none ws
 -- the weight of a place is in the sum
 pub weigh-at : (ws : List ℕ) (k n : ℕ) → T (has k n) → get_or ws k 0 ≤ weigh ws n
 weigh-at [] k n t = omega arith
-weigh-at (w ∷ ws) zero n t = at_low (has 0 n) t
+weigh-at (w ∷ ws) zero n t = at-low (has 0 n) t
   where
-    at_low : (b : Bool) → T b → w ≤ cond b w 0 + weigh ws (n / 2)
-    at_low true t = omega arith
-    at_low false t = absurd t
+    at-low : (b : Bool) → T b → w ≤ cond b w 0 + weigh ws (n / 2)
+    at-low true t = omega arith
+    at-low false t = absurd t
 weigh-at (w ∷ ws) (suc k) n t = omega (arith, weigh-at ws k (n / 2) t)
 
 -- a place of b that a lacks
 pub weigh-lacks : (ws : List ℕ) (a b k : ℕ) → Sub a b → T (has k b) → (T (has k a) → ⊥) → weigh ws a + get_or ws k 0 ≤ weigh ws b
 weigh-lacks ws a b k s t n =
-    omega (arith, weigh-part ws a b s, weigh-at ws k (minus b a) (subst T (sym (has-minus k b a)) (and_both _ _ t (not_T _ n))))
+    omega (arith, weigh-part ws a b s, weigh-at ws k (minus b a) (subst T (sym (has-minus k b a)) (and-both _ _ t (not_T _ n))))
 
 -- one place alone
 pub weigh-one : (ws : List ℕ) (k : ℕ) → weigh ws (2 ^ k) ≡ get_or ws k 0
@@ -93,13 +93,13 @@ weigh-clear ws w n p h =
 
 -- ---- the places whose weight passes a test
 
-low_bit : (b : Bool) (m : ℕ) → eqb ((cond b 1 0 + 2 * m) % 2) 1 ≡ b
-low_bit true m = let e : (1 + 2 * m) % 2 ≡ 1 = omega arith in ap (λ x. eqb x 1) e
-low_bit false m = let e : (0 + 2 * m) % 2 ≡ 0 = omega arith in ap (λ x. eqb x 1) e
+low-bit : (b : Bool) (m : ℕ) → eqb ((cond b 1 0 + 2 * m) % 2) 1 ≡ b
+low-bit true m = let e : (1 + 2 * m) % 2 ≡ 1 = omega arith in ap (λ x. eqb x 1) e
+low-bit false m = let e : (0 + 2 * m) % 2 ≡ 0 = omega arith in ap (λ x. eqb x 1) e
 
-high_bits : (b : Bool) (m : ℕ) → (cond b 1 0 + 2 * m) / 2 ≡ m
-high_bits true m = omega arith
-high_bits false m = omega arith
+high-bits : (b : Bool) (m : ℕ) → (cond b 1 0 + 2 * m) / 2 ≡ m
+high-bits true m = omega arith
+high-bits false m = omega arith
 
 pub has-all-or-none : (b : Bool) (k n : ℕ) → has k (cond b n 0) ≡ (has k n && b)
 has-all-or-none true k n = sym (and-true (has k n))
@@ -107,14 +107,14 @@ has-all-or-none false k n = has-none k ∙ sym (and-false (has k n))
 
 pub has-sieve : (f : ℕ → Bool) (ws : List ℕ) (k n : ℕ) → has k (sieve f ws n) ≡ (has k n && f (get_or ws k 0))
 has-sieve f [] k n = has-all-or-none (f 0) k n
-has-sieve f (w ∷ ws) zero n = low_bit (has 0 n && f w) (sieve f ws (n / 2))
-has-sieve f (w ∷ ws) (suc k) n = ap (has k) (high_bits (has 0 n && f w) (sieve f ws (n / 2))) ∙ has-sieve f ws k (n / 2)
+has-sieve f (w ∷ ws) zero n = low-bit (has 0 n && f w) (sieve f ws (n / 2))
+has-sieve f (w ∷ ws) (suc k) n = ap (has k) (high-bits (has 0 n && f w) (sieve f ws (n / 2))) ∙ has-sieve f ws k (n / 2)
 
 pub sieve-none : (f : ℕ → Bool) (ws : List ℕ) → sieve f ws 0 ≡ 0
 sieve-none f ws = same-places _ _ (λ k. has-sieve f ws k 0 ∙ ap (λ x. x && f (get_or ws k 0)) (has-none k) ∙ sym (has-none k))
 
 pub sieve-sub : (f : ℕ → Bool) (ws : List ℕ) (n : ℕ) → Sub (sieve f ws n) n
-sieve-sub f ws n k t = and_left _ _ (subst T (has-sieve f ws k n) t)
+sieve-sub f ws n k t = and-left _ _ (subst T (has-sieve f ws k n) t)
 
 -- two sets that make up a third, sieved apart
 pub sieve-union : (f : ℕ → Bool) (ws : List ℕ) (a b : ℕ) → bit_or (sieve f ws a) (sieve f ws b) ≡ sieve f ws (bit_or a b)
@@ -131,8 +131,8 @@ sieve-union f ws a b = same-places _ _ (λ k.
 
 -- a place alone passes as a whole
 pub sieve-one : (f : ℕ → Bool) (ws : List ℕ) (k : ℕ) → sieve f ws (2 ^ k) ≡ cond (f (get_or ws k 0)) (2 ^ k) 0
-sieve-one f ws k = same-places _ _ (λ j. has-sieve f ws j (2 ^ k) ∙ ap (λ x. x && f (get_or ws j 0)) (has_one j k) ∙ at j (eqb j k) refl
-    ∙ ap (λ x. x && f (get_or ws k 0)) (sym (has_one j k)) ∙ sym (has-all-or-none (f (get_or ws k 0)) j (2 ^ k)))
+sieve-one f ws k = same-places _ _ (λ j. has-sieve f ws j (2 ^ k) ∙ ap (λ x. x && f (get_or ws j 0)) (has-one j k) ∙ at j (eqb j k) refl
+    ∙ ap (λ x. x && f (get_or ws k 0)) (sym (has-one j k)) ∙ sym (has-all-or-none (f (get_or ws k 0)) j (2 ^ k)))
   where
     at : (j : ℕ) (b : Bool) → eqb j k ≡ b → (eqb j k && f (get_or ws j 0)) ≡ (eqb j k && f (get_or ws k 0))
     at j true e = ap (λ x. eqb j k && f (get_or ws x 0)) (eqb→eq j k (subst T (sym e) tt))
@@ -147,7 +147,7 @@ module _ (f : ℕ → Bool) (ws : List ℕ) (w n found : ℕ) (some : 0 < n) (fi
       ∙ sieve-union f ws (lowest n) (minus n (lowest n)) ∙ ap (sieve f ws) (union-minus (lowest n) n (lowest-sub n))
 
   pub sieve-pass : f (get_or ws (count_trailing_zeros w n) 0) ≡ true → bit_or (bit_or found (lowest n)) (sieve f ws (bit_and n (n - 1))) ≡ bit_or found (sieve f ws n)
-  sieve-pass e = union_assoc found (lowest n) (sieve f ws (bit_and n (n - 1)))
+  sieve-pass e = union-assoc found (lowest n) (sieve f ws (bit_and n (n - 1)))
       ∙ ap (bit_or found) (ap (λ b. bit_or (cond b (lowest n) 0) (sieve f ws (bit_and n (n - 1)))) (sym e) ∙ sieve-apart)
 
   pub sieve-fail : f (get_or ws (count_trailing_zeros w n) 0) ≡ false → bit_or found (sieve f ws (bit_and n (n - 1))) ≡ bit_or found (sieve f ws n)
@@ -155,18 +155,18 @@ module _ (f : ℕ → Bool) (ws : List ℕ) (w n found : ℕ) (some : 0 < n) (fi
 
 -- ---- a table with one weight for all
 
-at_same : (n k w : ℕ) → k < n → get_or (replicate n w) k 0 ≡ w
-at_same zero k w h = absurd (omega arith)
-at_same (suc n) zero w h = refl
-at_same (suc n) (suc k) w h = at_same n k w (omega arith)
+at-same : (n k w : ℕ) → k < n → get_or (replicate n w) k 0 ≡ w
+at-same zero k w h = absurd (omega arith)
+at-same (suc n) zero w h = refl
+at-same (suc n) (suc k) w h = at-same n k w (omega arith)
 
 pub sieve-same : (f : ℕ → Bool) (n w m : ℕ) → m < 2 ^ n → sieve f (replicate n w) m ≡ cond (f w) m 0
 sieve-same f n w m h = same-places _ _ (λ k. has-sieve f (replicate n w) k m ∙ each k ∙ sym (has-all-or-none (f w) k m))
   where
     each : (k : ℕ) → (has k m && f (get_or (replicate n w) k 0)) ≡ (has k m && f w)
     each k = elim (dec_lt k n) [
-      | yes l ↦ ap (λ x. has k m && f x) (at_same n k w l)
-      | no g ↦ (let l : n ≤ k = omega arith in let e = has_above n k m l h in ap (λ x. x && f (get_or (replicate n w) k 0)) e ∙ sym (ap (λ x. x && f w) e))
+      | yes l ↦ ap (λ x. has k m && f x) (at-same n k w l)
+      | no g ↦ (let l : n ≤ k = omega arith in let e = has-above n k m l h in ap (λ x. x && f (get_or (replicate n w) k 0)) e ∙ sym (ap (λ x. x && f w) e))
     ]
 
 -- ---- the places of p that s lacks and whose weight, added to b, is above a
@@ -175,21 +175,21 @@ module _ (a b : ℕ) (ws : List ℕ) (k p s : ℕ) where
   pub above-only : T (has k (sieve (λ w. ltb a (b + w)) ws (minus p s))) → T (has k p) × (T (has k s) → ⊥) × (a < b + get_or ws k 0)
   above-only t =
       let x = subst T (has-sieve (λ w. ltb a (b + w)) ws k (minus p s)) t in
-      let m = minus-only k p s (and_left _ _ x) in
-      (m.0, m.1, ltb→lt _ _ (and_right (has k (minus p s)) _ x))
+      let m = minus-only k p s (and-left _ _ x) in
+      (m.0, m.1, ltb→lt _ _ (and-right (has k (minus p s)) _ x))
 
   pub above-each : T (has k p) → (T (has k s) → ⊥) → a < b + get_or ws k 0 → T (has k (sieve (λ w. ltb a (b + w)) ws (minus p s)))
-  above-each t n l = subst T (sym (has-sieve (λ w. ltb a (b + w)) ws k (minus p s))) (and_both _ _ (minus-each k p s t n) (lt→ltb _ _ l))
+  above-each t n l = subst T (sym (has-sieve (λ w. ltb a (b + w)) ws k (minus p s))) (and-both _ _ (minus-each k p s t n) (lt→ltb _ _ l))
 
 -- ---- a table that goes on with 0
 
-at_all : (n k w : ℕ) → get_or (replicate n w) k w ≡ w
-at_all zero k w = refl
-at_all (suc n) zero w = refl
-at_all (suc n) (suc k) w = at_all n k w
+at-all : (n k w : ℕ) → get_or (replicate n w) k w ≡ w
+at-all zero k w = refl
+at-all (suc n) zero w = refl
+at-all (suc n) (suc k) w = at-all n k w
 
 at-padded : (ws : List ℕ) (n k : ℕ) → get_or (ws ++ replicate n 0) k 0 ≡ get_or ws k 0
-at-padded [] n k = at_all n k 0
+at-padded [] n k = at-all n k 0
 at-padded (w ∷ ws) n zero = refl
 at-padded (w ∷ ws) n (suc k) = at-padded ws n k
 
@@ -222,6 +222,6 @@ sieve-alike f g ws m h = same-places _ _ (λ k. has-sieve f ws k m ∙ both (has
 pub missed-above : (ws : List ℕ) (a p s : ℕ) → sieve (λ w. ltb (weigh ws p) (a + w)) ws (minus p s) ≡ sieve (λ w. ltb (weigh ws p - w) a) ws (minus p s)
 missed-above ws a p s = sieve-alike (λ w. ltb (weigh ws p) (a + w)) (λ w. ltb (weigh ws p - w) a) ws (minus p s) (λ k t.
     let l = weigh-at ws k p (minus-only k p s t).0 in
-    both_ways (ltb (weigh ws p) (a + get_or ws k 0)) (ltb (weigh ws p - get_or ws k 0) a)
+    both-ways (ltb (weigh ws p) (a + get_or ws k 0)) (ltb (weigh ws p - get_or ws k 0) a)
     (λ x. let y = ltb→lt (weigh ws p) (a + get_or ws k 0) x in lt→ltb _ _ (omega arith))
     (λ x. let y = ltb→lt (weigh ws p - get_or ws k 0) a x in lt→ltb _ _ (omega arith)))

@@ -2,17 +2,17 @@
 use Rattle.std.proofs.Common.{◌≡◌, ℕ, zero, suc, Bool, true, false, ◌&&◌, ◌||◌, T, sym, refl, subst}
 use Rattle.places.specs.Tables.{◌⇒◌, agree, Test, rows, Holds}
 
-pub and_left : (a b : Bool) → T (a && b) → T a
-and_left true b t = tt
-and_left false b t = t
+pub and-left : (a b : Bool) → T (a && b) → T a
+and-left true b t = tt
+and-left false b t = t
 
-pub and_right : (a b : Bool) → T (a && b) → T b
-and_right true b t = t
-and_right false b t = absurd t
+pub and-right : (a b : Bool) → T (a && b) → T b
+and-right true b t = t
+and-right false b t = absurd t
 
-pub and_both : (a b : Bool) → T a → T b → T (a && b)
-and_both true b s t = t
-and_both false b s t = s
+pub and-both : (a b : Bool) → T a → T b → T (a && b)
+and-both true b s t = t
+and-both false b s t = s
 
 both : (n : ℕ) (f : Bool → Test n) → Holds n (f true) → Holds n (f false) → (b : Bool) → Holds n (f b)
 both n f x y true = x
@@ -21,8 +21,8 @@ both n f x y false = y
 pub table : (n : ℕ) (f : Test n) → T (rows n f) → Holds n f
 table zero f t = t
 table (suc n) f t =
-    both n f (table n (f true) (and_left (rows n (f true)) (rows n (f false)) t))
-    (table n (f false) (and_right (rows n (f true)) (rows n (f false)) t))
+    both n f (table n (f true) (and-left (rows n (f true)) (rows n (f false)) t))
+    (table n (f false) (and-right (rows n (f true)) (rows n (f false)) t))
 
 pub follows : (a b : Bool) → T (a ⇒ b) → T a → T b
 follows true b t s = t
@@ -55,23 +55,23 @@ pub and-false : (a : Bool) → (a && false) ≡ false
 and-false true = refl
 and-false false = refl
 
-pub or_left : (a b : Bool) → T a → T (a || b)
-or_left true b t = tt
-or_left false b t = absurd t
+pub or-left : (a b : Bool) → T a → T (a || b)
+or-left true b t = tt
+or-left false b t = absurd t
 
-pub or_right : (a b : Bool) → T b → T (a || b)
-or_right true b t = tt
-or_right false b t = t
+pub or-right : (a b : Bool) → T b → T (a || b)
+or-right true b t = tt
+or-right false b t = t
 
-pub or_cases : (a b : Bool) {C : Type 0} → (T a → C) → (T b → C) → T (a || b) → C
-or_cases true b f g t = f tt
-or_cases false b f g t = g t
+pub or-cases : (a b : Bool) {C : Type 0} → (T a → C) → (T b → C) → T (a || b) → C
+or-cases true b f g t = f tt
+or-cases false b f g t = g t
 
-pub both_ways : (a b : Bool) → (T a → T b) → (T b → T a) → a ≡ b
-both_ways true true f g = refl
-both_ways true false f g = absurd (f tt)
-both_ways false true f g = absurd (g tt)
-both_ways false false f g = refl
+pub both-ways : (a b : Bool) → (T a → T b) → (T b → T a) → a ≡ b
+both-ways true true f g = refl
+both-ways true false f g = absurd (f tt)
+both-ways false true f g = absurd (g tt)
+both-ways false false f g = refl
 
 pub dec-T : (b : Bool) → Dec (T b)
 dec-T true = yes tt

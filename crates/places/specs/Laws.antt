@@ -8,7 +8,7 @@ pub record SetLaws : Type 0 where
   -- sets with the same places are one
   pub same : (a b : ℕ) → ((k : ℕ) → has k a ≡ has k b) → a ≡ b
   pub in-none : (k : ℕ) → has k none ≡ false
-  pub in_one : (p q : ℕ) → 1 ≤ p → holds q (one p) ≡ (q == p)
+  pub in-one : (p q : ℕ) → 1 ≤ p → holds q (one p) ≡ (q == p)
   pub in-up-to : (p n : ℕ) → 1 ≤ p → holds p (up_to n) ≡ nat_le p n
   pub in-union : (k a b : ℕ) → has k (union a b) ≡ (has k a || has k b)
   pub in-intersection : (k a b : ℕ) → has k (intersection a b) ≡ (has k a && has k b)

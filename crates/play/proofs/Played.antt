@@ -4,7 +4,7 @@ use native.Mathlib.Decide.{dec_lt}
 use Rattle.std.proofs.lemmas.List.{take_more}
 use Rattle.domain.specs.declared.kind.Domain as Domain
 use Rattle.domain.specs.declared.kind.Halves as Halves
-use Rattle.domain.specs.Options.{some_is}
+use Rattle.domain.specs.Options.{some-is}
 use Rattle.engine.specs.declared.propagator.Propagator as Propagator
 use Rattle.engine.specs.Rows.{item}
 use Rattle.engine.proofs.Rows.{item-here}
@@ -15,9 +15,9 @@ use Rattle.history.specs.Histories.{Answers, History, new, next}
 use Rattle.play.specs.declared.answer.Answer as Given
 use Rattle.play.specs.Plays.{asks_for, answer_of}
 
-map_last : {X Y : Type 0} (f : X → Y) (xs : List X) (x : X) → map f (xs ++ (x ∷ [])) ≡ map f xs ++ (f x ∷ [])
-map_last f [] x = refl
-map_last f (y ∷ ys) x = ap (λ z. f y ∷ z) (map_last f ys x)
+map-last : {X Y : Type 0} (f : X → Y) (xs : List X) (x : X) → map f (xs ++ (x ∷ [])) ≡ map f xs ++ (f x ∷ [])
+map-last f [] x = refl
+map-last f (y ∷ ys) x = ap (λ z. f y ∷ z) (map-last f ys x)
 
 map-none : {X Y : Type 0} (f : X → Y) → map f [] ≡ []
 map-none f = refl
@@ -30,7 +30,7 @@ pub roomy-more : {E R : Type 0} (calls : List (Call E R)) (memory i : ℕ) (call
 roomy-more calls memory i call lt is fits before j c below at = elim (dec_lt j i) [
   | yes l ↦ before j c l at
   | no n ↦ (let e : j ≡ i = omega arith in
-      subst (λ x. asks_for x ≤ memory) (some_is (sym (item-here calls i call lt is) ∙ ap (item calls) (sym e) ∙ at)) fits)
+      subst (λ x. asks_for x ≤ memory) (some-is (sym (item-here calls i call lt is) ∙ ap (item calls) (sym e) ∙ at)) fits)
 ]
 
 module _ {C V T B R E : Type 0} (kind : Domain.Ghosts C V T) (halves : Halves.Ghosts C V T) (rule : Propagator.Ghosts R C B V T) (entered : Entered.Ghosts E C B V T) where
@@ -46,5 +46,5 @@ module _ {C V T B R E : Type 0} (kind : Domain.Ghosts C V T) (halves : Halves.Gh
       History kind halves rule entered b (take (i + 1) calls) (map answer_of outs') u
   played-next b calls i call a outs outs' t u lt is pushed h s =
       let read : take (i + 1) calls ≡ take i calls ++ (call ∷ []) = take_more calls i call lt ∙ ap (λ x. take i calls ++ (x ∷ [])) (sym is) in
-      let told : map answer_of outs' ≡ map answer_of outs ++ (answer_of a ∷ []) = ap (map answer_of) pushed ∙ map_last answer_of outs a in
+      let told : map answer_of outs' ≡ map answer_of outs ++ (answer_of a ∷ []) = ap (map answer_of) pushed ∙ map-last answer_of outs a in
       subst (λ cs. History kind halves rule entered b cs (map answer_of outs') u) (sym read) (subst (λ x. History kind halves rule entered b (take i calls ++ (call ∷ [])) x u) (sym told) (next call (answer_of a) h s))

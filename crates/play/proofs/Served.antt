@@ -16,7 +16,7 @@ use Rattle.history.specs.Told.{Told, Answer}
 use Rattle.history.specs.Denials.{state_denial, ask_denial, settle_denial}
 use Rattle.history.specs.Histories.{row_limit, Answers}
 use Rattle.history.specs.Holds.{Holds}
-use Rattle.history.proofs.Held.{holds-declared, holds-stated, nothing_left}
+use Rattle.history.proofs.Held.{holds-declared, holds-stated, nothing-left}
 use Rattle.sheet.specs.Calls.{Declared, Asked, Tried, Stated, Settling}
 use Rattle.play.specs.Plays.{asks_for, taken_of, shown_of, ended_of, answer_of, Ends, Serves}
 use Rattle.play.specs.declared.answer.Answer as Given
@@ -44,7 +44,7 @@ module _ {C V T B R E : Type 0} {kind : Domain.Ghosts C V T} {halves : Halves.Gh
       Tried kind rule t cells line r spare o u after spare' →
       Answers kind halves rule entered t (State line r (length spare)) (taken_of o) u × Holds kind rule u after
   tried-served t u cells after spare spare' line r (Err f) h n d =
-      ((inr (n, (d.0, nothing_left narrows t r cells h (d.1 h.stands.rests))), d.2), held h d.2 d.3)
+      ((inr (n, (d.0, nothing-left narrows t r cells h (d.1 h.stands.rests))), d.2), held h d.2 d.3)
   tried-served t u cells after spare spare' line r (Ok y) h n d =
       let held-now = holds-stated narrows t r cells h line (length spare) n after (d.1 h.stands.rests) in
       let holds = subst (λ x. Holds kind rule x after) (sym d.0) held-now in

@@ -12,8 +12,8 @@ pub pushed : {R : Type 0} (before : List R) (r : R) (after : List R) (b : Bool) 
 pushed before r after true p few = p.1
 pushed before r after false p few = absurd (omega arith)
 
-pub all_but_last : {R : Type 0} (before : List R) (r : R) → but_newest (before ++ (r ∷ [])) ≡ before
-all_but_last before r = take_at before (r ∷ []) (length (before ++ (r ∷ [])) - 1) (omega (arith, length-append before (r ∷ [])))
+pub all-but-last : {R : Type 0} (before : List R) (r : R) → but_newest (before ++ (r ∷ [])) ≡ before
+all-but-last before r = take_at before (r ∷ []) (length (before ++ (r ∷ [])) - 1) (omega (arith, length-append before (r ∷ [])))
 
 -- what is laid over the first cells of a row and then restored
 pub restored : {C : Type 0} (row cells rested : List C) (n : ℕ) → length cells ≡ n → drop n rested ≡ drop n (cells ++ drop n row) → take n row ++ drop n rested ≡ row
@@ -25,7 +25,7 @@ module _ {C V T B R : Type 0} (kind : Domain.Ghosts C V T) (rule : Propagator.Gh
       Rests kind rule book accepted cells → Fixpoint kind rule book (accepted ++ (r ∷ [])) cells (take n rested) b
   tried rules same n long laid others rested over b narrowed rests =
       let first : take n laid ≡ cells = ap (take n) over ∙ take_at cells others n long in
-      let old : but_newest rules ≡ accepted = ap but_newest same ∙ all_but_last accepted r in
+      let old : but_newest rules ≡ accepted = ap but_newest same ∙ all-but-last accepted r in
       subst (λ P. Fixpoint kind rule book (accepted ++ (r ∷ [])) P (take n rested) b) first
       (subst (λ rs. Fixpoint kind rule book rs (take n laid) (take n rested) b) same
       (narrowed (subst (λ P. Rests kind rule book (but_newest rules) P) (sym first) (subst (λ rs. Rests kind rule book rs cells) (sym old) rests))))

@@ -5,13 +5,13 @@ use borrow.Author.Tests.{eqb-false}
 use Rattle.std.proofs.lemmas.Bool.{cases_Bool, cases_lt, cases_eq, cases_order}
 use Rattle.places.specs.Members.{has, minus, one}
 use Rattle.places.specs.Lowest.{First, lowest}
-use Rattle.places.proofs.Tables.{or_cases}
+use Rattle.places.proofs.Tables.{or-cases}
 use Rattle.places.proofs.Members.{has-none, has-or, has-minus, minus-sub, has-up-to}
-use Rattle.places.proofs.Lowest.{lowest-first, clear-is, has_one}
+use Rattle.places.proofs.Lowest.{lowest-first, clear-is, has-one}
 use Rattle.domain.specs.declared.kind.Domain as Domain
 use Rattle.domain.specs.Laws.{Within, BoundsLaws, HeightLaws}
 use Rattle.domain.specs.Counted.{In}
-use Rattle.domain.specs.Options.{none-some, some_is}
+use Rattle.domain.specs.Options.{none-some, some-is}
 use Rattle.engine.specs.declared.propagator.Propagator as Propagator
 use Rattle.engine.specs.Rows.{item, Inside, Agree}
 use Rattle.engine.specs.Laws.{NarrowingLaws}
@@ -25,21 +25,21 @@ use Rattle.solver.specs.Fixpoint.{OfRules, OthersRest}
 true-false : true ≡ false → ⊥
 true-false e = let z : ◌≡◌ {A = ℕ} 0 1 = cc in omega arith
 
-is_true : (b : Bool) → T b → b ≡ true
-is_true true t = refl
-is_true false t = absurd t
+is-true : (b : Bool) → T b → b ≡ true
+is-true true t = refl
+is-true false t = absurd t
 
 -- ---- rules by their number
 
-pub item_in : {X : Type 0} (xs : List X) (k : ℕ) (x : X) → item xs k ≡ Some x → In x xs
-item_in [] k x e = absurd (none-some e)
-item_in (y ∷ ys) zero x e = inl (sym (some_is e))
-item_in (y ∷ ys) (suc k) x e = inr (item_in ys k x e)
+pub item-in : {X : Type 0} (xs : List X) (k : ℕ) (x : X) → item xs k ≡ Some x → In x xs
+item-in [] k x e = absurd (none-some e)
+item-in (y ∷ ys) zero x e = inl (sym (some-is e))
+item-in (y ∷ ys) (suc k) x e = inr (item-in ys k x e)
 
-pub in_item : {X : Type 0} (xs : List X) (x : X) → In x xs → (k : ℕ) × (item xs k ≡ Some x)
-in_item [] x i = absurd i
-in_item (y ∷ ys) x (inl e) = (0, ap Some (sym e))
-in_item (y ∷ ys) x (inr i) = let t = in_item ys x i in (suc t.0, t.1)
+pub in-item : {X : Type 0} (xs : List X) (x : X) → In x xs → (k : ℕ) × (item xs k ≡ Some x)
+in-item [] x i = absurd i
+in-item (y ∷ ys) x (inl e) = (0, ap Some (sym e))
+in-item (y ∷ ys) x (inr i) = let t = in-item ys x i in (suc t.0, t.1)
 
 pub item-take : {X : Type 0} (xs : List X) (k n : ℕ) → k < n → item (take n xs) k ≡ item xs k
 item-take xs k zero h = absurd (omega arith)
@@ -94,8 +94,8 @@ or-neither true y e = absurd (true-false e)
 or-neither false y e = (refl, e)
 
 -- what is taken out is the lowest place and no other
-taken_out : (n k j : ℕ) → First k n → has j (minus n (lowest n)) ≡ false → (j ≡ k) ⊎ (has j n ≡ false)
-taken_out n k j f z = ⊎_elim
+taken-out : (n k j : ℕ) → First k n → has j (minus n (lowest n)) ≡ false → (j ≡ k) ⊎ (has j n ≡ false)
+taken-out n k j f z = ⊎_elim
     (λ t. ⊎_elim
     (λ l. let g = lowest-first j n (subst T (sym l) tt) in inl (one-first n j k g f))
     (λ l. absurd (true-false (sym (has-minus j n (lowest n) ∙ ap (λ b. b && not (has j (lowest n))) t ∙ ap not l) ∙ z)))
@@ -128,7 +128,7 @@ module _ {C V W B R : Type 0} (kind : Domain.Ghosts C V W) (rule : Propagator.Gh
 
   -- where none waits, all rest
   pub none-waits : (rules : List R) (row : List C) → OthersRest kind rule book rules 0 row → Rests kind rule book rules row
-  none-waits rules row others r i = let t = in_item rules r i in others t.0 r t.1 (has-none t.0)
+  none-waits rules row others r i = let t = in-item rules r i in others t.0 r t.1 (has-none t.0)
 
   pub holding-end : (rules : List R) (from row : List C) → Holding rules from row → OthersRest kind rule book rules 0 row → Widest kind rule book rules from row
   holding-end rules from row held others = record { inside = held.inside; rests = none-waits rules row others; widest = held.most }
@@ -141,19 +141,19 @@ module _ {C V W B R : Type 0} (kind : Domain.Ghosts C V W) (rule : Propagator.Gh
   pub newest-waits : (rules : List R) (row : List C) (set : ℕ) → (1 ≤ length rules → set ≡ one (length rules)) → Rests kind rule book (but_newest rules) row → OthersRest kind rule book rules set row
   newest-waits rules row set some rest k r e z =
       let i = item-within rules k r e in
-      let ne = eqb-false k (length rules - 1) (sym (ap (has k) (some (omega arith)) ∙ has_one k (length rules - 1)) ∙ z) in
-      rest r (item_in (but_newest rules) k r (item-take rules k (length rules - 1) (omega (arith, ne)) ∙ e))
+      let ne = eqb-false k (length rules - 1) (sym (ap (has k) (some (omega arith)) ∙ has-one k (length rules - 1)) ∙ z) in
+      rest r (item-in (but_newest rules) k r (item-take rules k (length rules - 1) (omega (arith, ne)) ∙ e))
 
   module _ (laws : (r : R) → NarrowingLaws kind.allows (rule.names r) (rule.narrowed book r)) where
     module _ (rules : List R) (from row : List C) (k : ℕ) (r : R) (listed : item rules k ≡ Some r) (held : Holding rules from row) where
       -- a resting row inside the row gets through the rule
       through : (P : List C) → Inside kind.allows P from → Rests kind rule book rules P → (Q : List C) × (rule.narrowed book r row ≡ Some Q) × Inside kind.allows P Q
-      through P a rests = (laws r).monotone P row P (held.most P a rests) (rests r (item_in rules k r listed))
+      through P a rests = (laws r).monotone P row P (held.most P a rests) (rests r (item-in rules k r listed))
 
       pub narrowed-holds : (row' : List C) → rule.narrowed book r row ≡ Some row' → Holding rules from row'
       narrowed-holds row' e = record {
         inside = inside-trans kind.allows row' row from ((laws r).inside row row' e) held.inside;
-        most = λ P a rests. let t = through P a rests in subst (Inside kind.allows P) (some_is (sym t.1 ∙ e)) t.2;
+        most = λ P a rests. let t = through P a rests in subst (Inside kind.allows P) (some-is (sym t.1 ∙ e)) t.2;
       }
 
       pub refuted : rule.narrowed book r row ≡ None → NoneRests kind rule book rules from
@@ -183,11 +183,11 @@ module _ {C V W B R : Type 0} (kind : Domain.Ghosts C V W) (rule : Propagator.Gh
     -- ---- the rule k, the lowest that waits, is taken and fired
 
     module _ (rules : List R) (row : List C) (waiting k : ℕ) (r : R) (lowest-waits : First k waiting) (listed : item rules k ≡ Some r) (others : OthersRest kind rule book rules waiting row) where
-      pub others_same : rule.narrowed book r row ≡ Some row → OthersRest kind rule book rules (minus waiting (lowest waiting)) row
-      others_same rests j s e z = ⊎_elim
-          (λ q. subst (λ x. rule.narrowed book x row ≡ Some row) (some_is (sym listed ∙ sym (ap (item rules) q) ∙ e)) rests)
+      pub others-same : rule.narrowed book r row ≡ Some row → OthersRest kind rule book rules (minus waiting (lowest waiting)) row
+      others-same rests j s e z = ⊎_elim
+          (λ q. subst (λ x. rule.narrowed book x row ≡ Some row) (some-is (sym listed ∙ sym (ap (item rules) q) ∙ e)) rests)
           (others j s e)
-          (taken_out waiting k j lowest-waits z)
+          (taken-out waiting k j lowest-waits z)
 
       pub others-woken : (row' : List C) (wake : ℕ) → Sharers rule.names rules (length row) r wake → rule.narrowed book r row ≡ Some row' → (row' ≡ row → ⊥) →
           OthersRest kind rule book rules (bit_or (minus waiting (lowest waiting)) wake) row'
@@ -195,10 +195,10 @@ module _ {C V W B R : Type 0} (kind : Domain.Ghosts C V W) (rule : Propagator.Gh
           let a = or-neither (has j (minus waiting (lowest waiting))) (has j wake) (sym (has-or j (minus waiting (lowest waiting)) wake) ∙ z) in
           let apart : (i : ℕ) → i < length row → rule.names r i ≡ true → rule.names s i ≡ true → ⊥ = λ i h m n. subst T a.1 (sharers.each j i s e h m n) in
           ⊎_elim
-          (λ q. let same : r ≡ s = some_is (sym listed ∙ sym (ap (item rules) q) ∙ e) in
+          (λ q. let same : r ≡ s = some-is (sym listed ∙ sym (ap (item rules) q) ∙ e) in
           absurd (changed (nothing-named row row' r fired (λ i h m. apart i h m (subst (λ x. rule.names x i ≡ true) same m)))))
           (λ y. rests-apart row row' r s fired apart (others j s e y))
-          (taken_out waiting k j lowest-waits a.0)
+          (taken-out waiting k j lowest-waits a.0)
 
 -- ---- sets of rules of the list
 
@@ -207,10 +207,10 @@ module _ {R : Type 0} (rules : List R) where
   fewer-rules n o k t = o k (minus-sub n (lowest n) k t)
 
   pub more-rules : (n m : ℕ) → OfRules rules n → ((k : ℕ) → T (has k m) → k < length rules) → OfRules rules (bit_or n m)
-  more-rules n m o p k t = or_cases (has k n) (has k m) (o k) (p k) (subst T (has-or k n m) t)
+  more-rules n m o p k t = or-cases (has k n) (has k m) (o k) (p k) (subst T (has-or k n m) t)
 
   pub all-rules : OfRules rules (2 ^ length rules - 1)
-  all-rules k t = ltb-true k (length rules) (is_true (ltb k (length rules)) (subst T (has-up-to k (length rules)) t))
+  all-rules k t = ltb-true k (length rules) (is-true (ltb k (length rules)) (subst T (has-up-to k (length rules)) t))
 
   pub no-rule : OfRules rules 0
   no-rule k t = absurd (subst T (has-none k) t)
@@ -218,7 +218,7 @@ module _ {R : Type 0} (rules : List R) where
   pub newest-rule : (set : ℕ) → (1 ≤ length rules → set ≡ one (length rules)) → (length rules ≡ 0 → set ≡ 0) → OfRules rules set
   newest-rule set some none k t = ⊎_elim
       (λ e. absurd (subst T (ap (has k) (none e) ∙ has-none k) t))
-      (λ ne. let e = eqb→eq k (length rules - 1) (subst T (ap (has k) (some (omega (arith, ne))) ∙ has_one k (length rules - 1)) t) in omega (arith, ne))
+      (λ ne. let e = eqb→eq k (length rules - 1) (subst T (ap (has k) (some (omega (arith, ne))) ∙ has-one k (length rules - 1)) t) in omega (arith, ne))
       (cases_eq (length rules) 0)
 
 -- the measure falls where the row does

@@ -8,15 +8,15 @@ use Rattle.std.proofs.lemmas.List.{same_lists, get_or-drop, get_or-take, length-
 use Rattle.meaning.specs.Search.{change}
 
 -- two parts are the same, cell by cell
-pub part_same : {X : Type 0} (n a b : ℕ) (s e : List X) → a + n ≤ length s → b + n ≤ length e → ((k : ℕ) → k < n → (d : X) → get_or s (a + k) d ≡ get_or e (b + k) d) → take n (drop a s) ≡ take n (drop b e)
-part_same n a b s e h i same =
+pub part-same : {X : Type 0} (n a b : ℕ) (s e : List X) → a + n ≤ length s → b + n ≤ length e → ((k : ℕ) → k < n → (d : X) → get_or s (a + k) d ≡ get_or e (b + k) d) → take n (drop a s) ≡ take n (drop b e)
+part-same n a b s e h i same =
     let ls : length (take n (drop a s)) ≡ n = length-take-le n (drop a s) (omega (arith, length-drop a s)) in
     let le : length (take n (drop b e)) ≡ n = length-take-le n (drop b e) (omega (arith, length-drop b e)) in
     same_lists (take n (drop a s)) (take n (drop b e)) (ls ∙ sym le)
     (λ k d z. let y : k < n = omega arith in get_or-take n (drop a s) k d y ∙ get_or-drop a s k d ∙ same k y d ∙ sym (get_or-take n (drop b e) k d y ∙ get_or-drop b e k d))
 
-pub take_same : {X : Type 0} (n : ℕ) (s e : List X) → n ≤ length s → n ≤ length e → ((k : ℕ) → k < n → (d : X) → get_or s k d ≡ get_or e k d) → take n s ≡ take n e
-take_same n s e h i same =
+pub take-same : {X : Type 0} (n : ℕ) (s e : List X) → n ≤ length s → n ≤ length e → ((k : ℕ) → k < n → (d : X) → get_or s k d ≡ get_or e k d) → take n s ≡ take n e
+take-same n s e h i same =
     let ls = length-take-le n s h in
     let le = length-take-le n e i in
     same_lists (take n s) (take n e) (ls ∙ sym le) (λ k d z. let y : k < n = omega arith in get_or-take n s k d y ∙ same k y d ∙ sym (get_or-take n e k d y))
@@ -75,8 +75,8 @@ room-part n d d' rows s h e r =
     omega arith
 
 -- a part that is lent comes back as long as it was
-pub lent_same : {X : Type 0} (n : ℕ) (s ys : List X) → n ≤ length s → length ys ≡ length (take (length s - n) (drop n s)) → length (put_mid n (length s - n) s ys) ≡ length s
-lent_same n s ys h e =
+pub lent-same : {X : Type 0} (n : ℕ) (s ys : List X) → n ≤ length s → length ys ≡ length (take (length s - n) (drop n s)) → length (put_mid n (length s - n) s ys) ≡ length s
+lent-same n s ys h e =
     let long = length-take-le (length s - n) (drop n s) (omega (arith, length-drop n s)) in
     omega (arith, length-append (take n s) (ys ++ post_of n (length s - n) s), length-append ys (post_of n (length s - n) s), length-take-le n s h, length-drop (length s - n) (drop n s), length-drop n s)
 

@@ -5,9 +5,9 @@ use Rattle.std.proofs.lemmas.Bool.{cases_lt}
 use Rattle.std.proofs.lemmas.List.{get_or-set_same, get_or-set_other}
 use Rattle.places.specs.Members.{has}
 use Rattle.places.specs.declared.PlaceSet.{PlaceSet}
-use Rattle.places.proofs.Tables.{or_cases, or_left, or_right}
+use Rattle.places.proofs.Tables.{or-cases, or-left, or-right}
 use Rattle.places.proofs.Members.{has-or, has-none}
-use Rattle.places.proofs.Lowest.{has_one}
+use Rattle.places.proofs.Lowest.{has-one}
 use Rattle.engine.specs.Rows.{item}
 use Rattle.engine.proofs.Rows.{item-gone}
 use Rattle.solver.specs.Waking.{named_by, Namers, Sharers, set_at}
@@ -43,7 +43,7 @@ module _ {R : Type 0} (names : R → ℕ → Bool) (rules : List R) (cell : ℕ)
     }
       where
         has-put : (k : ℕ) → has k (bit_or set (2 ^ i)) ≡ (has k set || eqb k i)
-        has-put k = has-or k set (2 ^ i) ∙ ap (λ b. has k set || b) (has_one k i)
+        has-put k = has-or k set (2 ^ i) ∙ ap (λ b. has k set || b) (has-one k i)
 
     pub namers-same : names r cell ≡ false → NamersBelow (i + 1) set
     namers-same n = record {
@@ -70,10 +70,10 @@ module _ {R : Type 0} (names : R → ℕ → Bool) (rules : List R) (r : R) wher
   module _ (i set : ℕ) (so_far : Sharers names rules i r set) where
     pub sharers-more : (named : ℕ) → Namers names rules i named → Sharers names rules (i + 1) r (bit_or set named)
     sharers-more named n = record {
-      only = λ k t. or_cases (has k set) (has k named) (so_far.only k) (namer-within names rules i named n k) (subst T (has-or k set named) t);
+      only = λ k t. or-cases (has k set) (has k named) (so_far.only k) (namer-within names rules i named n k) (subst T (has-or k set named) t);
       each = λ k j s e h m m'. subst T (sym (has-or k set named)) (⊎_elim
-          (λ l. or_left (has k set) (has k named) (so_far.each k j s e l m m'))
-          (λ l. let q : i ≡ j = omega arith in or_right (has k set) (has k named) (subst T (sym (n k ∙ ap (named_by names i) e ∙ ap (names s) q ∙ m')) tt))
+          (λ l. or-left (has k set) (has k named) (so_far.each k j s e l m m'))
+          (λ l. let q : i ≡ j = omega arith in or-right (has k set) (has k named) (subst T (sym (n k ∙ ap (named_by names i) e ∙ ap (names s) q ∙ m')) tt))
           (cases_lt j i));
     }
 
@@ -86,9 +86,9 @@ module _ {R : Type 0} (names : R → ℕ → Bool) (rules : List R) (r : R) wher
 -- ---- tables
 
 -- a set found for place i is put there, and those below stay
-pub table_more : (P : ℕ → ℕ → Type 0) (table : List PlaceSet) (i : ℕ) (found : PlaceSet) → i < length table →
+pub table-more : (P : ℕ → ℕ → Type 0) (table : List PlaceSet) (i : ℕ) (found : PlaceSet) → i < length table →
     ((j : ℕ) → j < i → P j (set_at table j)) → P i found.bits → (j : ℕ) → j < i + 1 → P j (set_at (set table i found) j)
-table_more P table i found l below here =
+table-more P table i found l below here =
     below_more _ i
     (λ j h. let ne : j ≢ i = omega arith in subst (P j) (sym (ap (λ s. s.bits) (get_or-set_other table i j found _ ne))) (below j h))
     (subst (P i) (sym (ap (λ s. s.bits) (get_or-set_same table i found _ l))) here)

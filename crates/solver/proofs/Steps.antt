@@ -6,7 +6,7 @@ use Rattle.domain.specs.Laws.{BoundsLaws}
 use Rattle.engine.specs.declared.propagator.Propagator as Propagator
 use Rattle.engine.specs.Rows.{item}
 use Rattle.engine.specs.Laws.{NarrowingLaws}
-use Rattle.engine.proofs.Rows.{inside-self, rows_same}
+use Rattle.engine.proofs.Rows.{inside-self, rows-same}
 use Rattle.engine.proofs.Fitting.{rests-agreed}
 use Rattle.meaning.specs.Resting.{Rests, Widest, NoneRests}
 use Rattle.meaning.specs.Search.{change, FirstOpen, Ending, found, none, node, half, Seek, all-single, in-first, in-second, turn-back, child}
@@ -16,7 +16,7 @@ use Rattle.solver.specs.Endings.{ending}
 use Rattle.solver.specs.Settling.{SearchedOn}
 use Rattle.solver.specs.declared.search.End.{End}
 use Rattle.solver.specs.declared.search.End.TheVariants as E
-use Rattle.solver.proofs.Resting.{item_in}
+use Rattle.solver.proofs.Resting.{item-in}
 
 -- ---- endings
 
@@ -29,11 +29,11 @@ lifted E.None A B f = refl
 lifted E.Spent A B f = refl
 lifted E.Deep A B f = refl
 
-not_none : {C : Type 0} (e : End) (A : List C) → (e ≡ E.None → ⊥) → ending e A ≡ none → ⊥
-not_none E.Found A n q = let z : ◌≡◌ {A = ℕ} 0 1 = cc in omega arith
-not_none E.None A n q = n refl
-not_none E.Spent A n q = let z : ◌≡◌ {A = ℕ} 0 1 = cc in omega arith
-not_none E.Deep A n q = let z : ◌≡◌ {A = ℕ} 0 1 = cc in omega arith
+not-none : {C : Type 0} (e : End) (A : List C) → (e ≡ E.None → ⊥) → ending e A ≡ none → ⊥
+not-none E.Found A n q = let z : ◌≡◌ {A = ℕ} 0 1 = cc in omega arith
+not-none E.None A n q = n refl
+not-none E.Spent A n q = let z : ◌≡◌ {A = ℕ} 0 1 = cc in omega arith
+not-none E.Deep A n q = let z : ◌≡◌ {A = ℕ} 0 1 = cc in omega arith
 
 -- ---- a cell that is cut
 
@@ -51,7 +51,7 @@ module _ {C V W B R : Type 0} (kind : Domain.Ghosts C V W) (rule : Propagator.Gh
       let away : rule.names r i ≡ false = sym (ap (named_by rule.names i) e) ∙ sym (named k) ∙ z in
       rests-agreed (laws r) Q (change f Q i)
       (λ j n. sym (item-change f Q i j (λ q. true-false (sym n ∙ ap (rule.names r) q ∙ away))))
-      (rests r (item_in rules k r e))
+      (rests r (item-in rules k r e))
 
 module _ {C V W B R : Type 0} (kind : Domain.Ghosts C V W) (halves : Halves.Ghosts C V W) (rule : Propagator.Ghosts R C B V W) (book : B) (rules : List R) (cut_limit row_limit : ℕ) where
   abbrev Sought : ℕ → ℕ → List C → Ending C → ℕ → Type 0
@@ -59,7 +59,7 @@ module _ {C V W B R : Type 0} (kind : Domain.Ghosts C V W) (halves : Halves.Ghos
 
   pub step-first : (k d i c : ℕ) (P Q : List C) (e : End) (A B : List C) → Widest kind rule book rules P Q → FirstOpen kind.height Q i → k < cut_limit → d < row_limit → (e ≡ E.None → ⊥) →
       Sought (k + 1) (d + 1) (change halves.first Q i) (ending e A) c → (e ≡ E.Found → B ≡ A) → Sought k d P (ending e B) c
-  step-first k d i c P Q e A B w f a b n t q = subst (λ x. Sought k d P x c) (lifted e A B (λ z. sym (q z))) (child w (in-first i f a b t (not_none e A n)))
+  step-first k d i c P Q e A B w f a b n t q = subst (λ x. Sought k d P x c) (lifted e A B (λ z. sym (q z))) (child w (in-first i f a b t (not-none e A n)))
 
   pub step-second : (k d i m c : ℕ) (P Q : List C) (e₁ e : End) (A₁ A B : List C) → Widest kind rule book rules P Q → FirstOpen kind.height Q i → k < cut_limit → d < row_limit → e₁ ≡ E.None →
       Sought (k + 1) (d + 1) (change halves.first Q i) (ending e₁ A₁) m → Sought m (d + 1) (change halves.second Q i) (ending e A) c → (e ≡ E.Found → B ≡ A) → Sought k d P (ending e B) c
@@ -77,13 +77,13 @@ module _ {C V W B R : Type 0} (kind : Domain.Ghosts C V W) (halves : Halves.Ghos
 
 module _ {C V W B R : Type 0} (kind : Domain.Ghosts C V W) (rule : Propagator.Ghosts R C B V W) (book : B) (rules : List R) where
   -- where all rest, those that do not wait rest
-  pub all_rest : (set : ℕ) (P : List C) → Rests kind rule book rules P → OthersRest kind rule book rules set P
-  all_rest set P rests k r e z = rests r (item_in rules k r e)
+  pub all-rest : (set : ℕ) (P : List C) → Rests kind rule book rules P → OthersRest kind rule book rules set P
+  all-rest set P rests k r e z = rests r (item-in rules k r e)
 
   module _ (bounds : BoundsLaws kind.allows kind.sample kind.inside) where
     -- they are the widest within themselves, and the only ones
     pub rests-only : (P Q : List C) → Rests kind rule book rules P → Widest kind rule book rules P Q → Q ≡ P
-    rests-only P Q rests w = rows_same bounds Q P w.inside (w.widest P (inside-self kind.allows P) rests)
+    rests-only P Q rests w = rows-same bounds Q P w.inside (w.widest P (inside-self kind.allows P) rests)
 
     pub stays : (P Q : List C) → Rests kind rule book rules P → NoneRests kind rule book rules P ⊎ Widest kind rule book rules P Q → Q ≡ P
     stays P Q rests (inl n) = absurd (n P (inside-self kind.allows P) rests)
@@ -92,13 +92,13 @@ module _ {C V W B R : Type 0} (kind : Domain.Ghosts C V W) (rule : Propagator.Gh
 module _ {C V W B R : Type 0} (kind : Domain.Ghosts C V W) (halves : Halves.Ghosts C V W) (rule : Propagator.Ghosts R C B V W) (book : B) (rules : List R) (cut_limit row_limit : ℕ)
     (bounds : BoundsLaws kind.allows kind.sample kind.inside) where
   -- a half that rests is a node
-  pub at_rest : {k d c : ℕ} {P : List C} {e : Ending C} → Rests kind rule book rules P → Seek kind halves rule book rules cut_limit row_limit half k d P e c → Seek kind halves rule book rules cut_limit row_limit node k d P e c
-  at_rest {P = P} rests (turn-back n) = absurd (n P (inside-self kind.allows P) rests)
-  at_rest {k} {d} {c} {e = e} rests (child {P = P} {Q = Q} w t) = subst (λ X. Seek kind halves rule book rules cut_limit row_limit node k d X e c) (rests-only kind rule book rules bounds P Q rests w) t
+  pub at-rest : {k d c : ℕ} {P : List C} {e : Ending C} → Rests kind rule book rules P → Seek kind halves rule book rules cut_limit row_limit half k d P e c → Seek kind halves rule book rules cut_limit row_limit node k d P e c
+  at-rest {P = P} rests (turn-back n) = absurd (n P (inside-self kind.allows P) rests)
+  at-rest {k} {d} {c} {e = e} rests (child {P = P} {Q = Q} w t) = subst (λ X. Seek kind halves rule book rules cut_limit row_limit node k d X e c) (rests-only kind rule book rules bounds P Q rests w) t
 
 -- ---- no cells
 
 module _ {C V W B R : Type 0} (kind : Domain.Ghosts C V W) (halves : Halves.Ghosts C V W) (rule : Propagator.Ghosts R C B V W) (book : B) (rules : List R) where
-  pub no_cells : (cells : List C) (cut_limit : ℕ) (stack : List C) → length cells ≡ 0 → SearchedOn kind halves rule book rules cells cut_limit stack stack (record { end = E.Found; cuts = 0 })
-  no_cells [] cut_limit stack e = record { room = omega arith; searched = λ rests. all-single tt; kept = λ rests n. absurd (n refl); empty = λ _. refl }
-  no_cells (p ∷ ps) cut_limit stack e = absurd (omega arith)
+  pub no-cells : (cells : List C) (cut_limit : ℕ) (stack : List C) → length cells ≡ 0 → SearchedOn kind halves rule book rules cells cut_limit stack stack (record { end = E.Found; cuts = 0 })
+  no-cells [] cut_limit stack e = record { room = omega arith; searched = λ rests. all-single tt; kept = λ rests n. absurd (n refl); empty = λ _. refl }
+  no-cells (p ∷ ps) cut_limit stack e = absurd (omega arith)

@@ -2,4 +2,5 @@
 pub mod Statements
 pub mod ScaleStatements
 pub mod Cases
-pub mod ScaleStatementPropagatorLemmas
+-- The proofs of laws that the scale sheet's statements cite where they state them.
+pub mod ScaleStatementLaws

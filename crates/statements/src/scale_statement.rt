@@ -5,10 +5,10 @@ ghost use Rattle.domain.specs.NumbersLemmas.{number-bounds, number-heights, numb
 ghost use Rattle.engine.proofs.Lifted.{two-narrowing, three-narrowing, two-relation, three-relation};
 ghost use Rattle.statements.specs.declared.scale_statement.ScaleStatement.TheVariants.{Sum, Most};
 ghost use Rattle.amounts.specs.NumberLaws.{sum-laws, most-laws};
-ghost use Rattle.statements.specs.ScaleStatementPropagatorLemmas.{alone, last};
+ghost use Rattle.statements.specs.ScaleStatementLaws.{alone, last};
 ghost use Rattle.std.specs.Prelude.{[], ◌∷◌, Some};
 ghost use Rattle.domain.specs.Numbers.{NumberAllows};
-ghost use Rattle.engine.proofs.Fitting.{cells_fit};
+ghost use Rattle.engine.proofs.Fitting.{cells-fit};
 ghost use Rattle.amounts.specs.Fields.{number_cell};
 
 use amounts::numbers::{Most, Sum};
@@ -45,8 +45,8 @@ impl<B> Propagator<Number, B> for ScaleStatement {
 
     ghost fitting = { λ b.
         elim [
-          | Sum w ↦ cells_fit NumberAllows (number_cell Some 3 w.first ∷ (number_cell Some 4 w.second ∷ (number_cell Some 5 w.third ∷ []))) [] (last, (last, (last, tt)))
-          | Most w ↦ cells_fit NumberAllows (number_cell Some 3 w.first ∷ (number_cell Some 4 w.second ∷ [])) [] (last, (last, tt))
+          | Sum w ↦ cells-fit NumberAllows (number_cell Some 3 w.first ∷ (number_cell Some 4 w.second ∷ (number_cell Some 5 w.third ∷ []))) [] (last, (last, (last, tt)))
+          | Most w ↦ cells-fit NumberAllows (number_cell Some 3 w.first ∷ (number_cell Some 4 w.second ∷ [])) [] (last, (last, tt))
         ] };
 
     fn names_cell(&self, cell: usize) -> bool {

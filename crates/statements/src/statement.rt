@@ -6,7 +6,7 @@ ghost use Rattle.engine.proofs.Lifted.{two-narrowing, three-narrowing, two-relat
 ghost use Rattle.statements.specs.declared.statement.Statement.TheVariants.{Sub, Same, Apart, Union, Both, Less, Has, Lacks, Count, Weigh, Sum, Most};
 ghost use Rattle.words.specs.CellsLemmas.{cell-bounds, cell-heights, cell-tells};
 ghost use Rattle.words.specs.CellsLemmas as Cells;
-ghost use Rattle.words.specs.Lifting.{narrowing_one, narrowing-two, narrowing-three, relation-one, relation-two, relation-three};
+ghost use Rattle.words.specs.Lifting.{narrowing-one, narrowing-two, narrowing-three, relation-one, relation-two, relation-three};
 ghost use Rattle.amounts.specs.Lifting.{narrowing-scales, relation-scales};
 ghost use Rattle.words.specs.MemberLaws.{has-laws, lacks-laws};
 ghost use Rattle.amounts.specs.NumberLaws.{sum-laws, most-laws};
@@ -15,7 +15,7 @@ ghost use Rattle.amounts.specs.ScaleLaws.{count-laws, weigh-laws};
 ghost use Rattle.words.specs.TripleLaws.{union-laws, both-laws, less-laws};
 ghost use Rattle.std.specs.Prelude.{[], ◌∷◌};
 ghost use Rattle.engine.specs.Parts.{second_of};
-ghost use Rattle.engine.proofs.Fitting.{cells_fit};
+ghost use Rattle.engine.proofs.Fitting.{cells-fit};
 ghost use Rattle.words.specs.Cells.{CellAllows};
 ghost use Rattle.words.specs.Fields.{place_field};
 ghost use Rattle.amounts.specs.Fields.{number_cell};
@@ -65,8 +65,8 @@ impl Propagator<Cell, ClosedList> for Statement {
           | Union w ↦ narrowing-three union-laws w.first w.second w.third
           | Both w ↦ narrowing-three both-laws w.first w.second w.third
           | Less w ↦ narrowing-three less-laws w.first w.second w.third
-          | Has w ↦ narrowing_one (has-laws w.place) w.cell
-          | Lacks w ↦ narrowing_one (lacks-laws w.place) w.cell
+          | Has w ↦ narrowing-one (has-laws w.place) w.cell
+          | Lacks w ↦ narrowing-one (lacks-laws w.place) w.cell
           | Count w ↦ narrowing-scales count-laws w.cell w.number
           | Weigh w ↦ narrowing-scales (weigh-laws (closed_weights b)) w.cell w.number
           | Sum w ↦ three-narrowing cell-bounds cell-heights cell-tells Cells.numbers sum-laws w.first w.second w.third
@@ -101,8 +101,8 @@ impl Propagator<Cell, ClosedList> for Statement {
           | Lacks w ↦ fit-laws (place_field 4 w.place b ∷ []) 3 (w.cell ∷ [])
           | Count w ↦ group-and-number-fit w.cell w.number
           | Weigh w ↦ group-and-number-fit w.cell w.number
-          | Sum w ↦ cells_fit CellAllows (number_cell second_of 3 w.first ∷ (number_cell second_of 4 w.second ∷ (number_cell second_of 5 w.third ∷ []))) [] (numbers-last, (numbers-last, (numbers-last, tt)))
-          | Most w ↦ cells_fit CellAllows (number_cell second_of 3 w.first ∷ (number_cell second_of 4 w.second ∷ [])) [] (numbers-last, (numbers-last, tt))
+          | Sum w ↦ cells-fit CellAllows (number_cell second_of 3 w.first ∷ (number_cell second_of 4 w.second ∷ (number_cell second_of 5 w.third ∷ []))) [] (numbers-last, (numbers-last, (numbers-last, tt)))
+          | Most w ↦ cells-fit CellAllows (number_cell second_of 3 w.first ∷ (number_cell second_of 4 w.second ∷ [])) [] (numbers-last, (numbers-last, tt))
         ] };
 
     fn names_cell(&self, cell: usize) -> bool {

@@ -18,13 +18,13 @@ free-lacks sep [] l k h e = absurd (omega arith)
 free-lacks sep (x ∷ xs) l zero h e = l.0 e
 free-lacks sep (x ∷ xs) l (suc k) h e = free-lacks sep xs l.1 k (omega arith) e
 
-pub parts_whole : (sep : ℕ) (xs : List ℕ) → Free sep xs → parts_of sep xs ≡ xs ∷ []
-parts_whole sep [] f = refl
-parts_whole sep (x ∷ xs) f = rw (ne_eqb x sep (f 0 (omega arith)), parts_whole sep xs (λ k h. f (suc k) (omega arith)))
+pub parts-whole : (sep : ℕ) (xs : List ℕ) → Free sep xs → parts_of sep xs ≡ xs ∷ []
+parts-whole sep [] f = refl
+parts-whole sep (x ∷ xs) f = rw (ne_eqb x sep (f 0 (omega arith)), parts-whole sep xs (λ k h. f (suc k) (omega arith)))
 
-pub parts_cut : (sep : ℕ) (xs ys : List ℕ) → Free sep xs → parts_of sep (xs ++ (sep ∷ ys)) ≡ xs ∷ parts_of sep ys
-parts_cut sep [] ys f = rw (eq-eqb sep sep refl)
-parts_cut sep (x ∷ xs) ys f = rw (ne_eqb x sep (f 0 (omega arith)), parts_cut sep xs ys (λ k h. f (suc k) (omega arith)))
+pub parts-cut : (sep : ℕ) (xs ys : List ℕ) → Free sep xs → parts_of sep (xs ++ (sep ∷ ys)) ≡ xs ∷ parts_of sep ys
+parts-cut sep [] ys f = rw (eq-eqb sep sep refl)
+parts-cut sep (x ∷ xs) ys f = rw (ne_eqb x sep (f 0 (omega arith)), parts-cut sep xs ys (λ k h. f (suc k) (omega arith)))
 
 module _ (sep : ℕ) (s : List ℕ) (i : ℕ) (lt : i < length s) (before : (k : ℕ) → k < i → get_or s k 0 ≡ sep → ⊥) where
   pub free-at : Free sep (take i s)
@@ -33,8 +33,8 @@ module _ (sep : ℕ) (s : List ℕ) (i : ℕ) (lt : i < length s) (before : (k :
   pub whole-at : get_or s i 0 ≡ sep → s ≡ take i s ++ (sep ∷ drop (i + 1) s)
   whole-at e = sym (take-append-drop i s) ∙ ap (λ t. take i s ++ t) (drop_more s i 0 lt ∙ ap (λ x. x ∷ drop (i + 1) s) e)
 
-  pub cut_at : get_or s i 0 ≡ sep → parts_of sep s ≡ take i s ∷ parts_of sep (drop (i + 1) s)
-  cut_at e = ap (parts_of sep) (whole-at e) ∙ parts_cut sep (take i s) (drop (i + 1) s) free-at
+  pub cut-at : get_or s i 0 ≡ sep → parts_of sep s ≡ take i s ∷ parts_of sep (drop (i + 1) s)
+  cut-at e = ap (parts_of sep) (whole-at e) ∙ parts-cut sep (take i s) (drop (i + 1) s) free-at
 
 head-some : (c : ℕ) (ps : List (List ℕ)) → 0 < length (on_head c ps)
 head-some c [] = omega arith
@@ -67,8 +67,8 @@ module _ (sep : ℕ) (s : List ℕ) (i : ℕ) (lt : i < length s) where
   pub count-more : get_or s i 0 ≡ sep → length (parts_of sep (drop i s)) ≡ 1 + length (parts_of sep (drop (i + 1) s))
   count-more e = at_drop_more (λ t. length (parts_of sep t)) s i 0 lt ∙ rw (eq-eqb (get_or s i 0) sep e) (omega arith)
 
-  pub count_same : (get_or s i 0 ≡ sep → ⊥) → length (parts_of sep (drop i s)) ≡ length (parts_of sep (drop (i + 1) s))
-  count_same ne = at_drop_more (λ t. length (parts_of sep t)) s i 0 lt ∙ rw (ne_eqb (get_or s i 0) sep ne) (head-length (get_or s i 0) (parts_of sep (drop (i + 1) s)) (parts-some sep (drop (i + 1) s)))
+  pub count-same : (get_or s i 0 ≡ sep → ⊥) → length (parts_of sep (drop i s)) ≡ length (parts_of sep (drop (i + 1) s))
+  count-same ne = at_drop_more (λ t. length (parts_of sep t)) s i 0 lt ∙ rw (ne_eqb (get_or s i 0) sep ne) (head-length (get_or s i 0) (parts_of sep (drop (i + 1) s)) (parts-some sep (drop (i + 1) s)))
 
 head-lacks : (sep c : ℕ) (ps : List (List ℕ)) → (c ≡ sep → ⊥) → All (Lacks sep) ps → All (Lacks sep) (on_head c ps)
 head-lacks sep c [] ne a = ((ne, tt), tt)

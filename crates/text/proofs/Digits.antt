@@ -41,15 +41,15 @@ shaped n [] e = grind arith
 shaped n (c ∷ []) e = (omega arith, λ _. refl, e)
 shaped n (c ∷ d ∷ ds) e = (omega arith, grind (arith, nat_tests), grind (arith, nat_tests))
 
-zero_or : (n : ℕ) → (n ≡ 0) ⊎ (0 < n)
-zero_or n = ⊎_elim (λ e. inl e) (λ ne. inr (omega arith)) (cases_eq n 0)
+zero-or : (n : ℕ) → (n ≡ 0) ⊎ (0 < n)
+zero-or n = ⊎_elim (λ e. inl e) (λ ne. inr (omega arith)) (cases_eq n 0)
 
 reads : (n : ℕ) → n < 2 ^ 64 → number_of (decimal n) ≡ Some n
 reads n small =
     let d = digits_decimal own n small in
     let v = digits_value-decimal own n small in
     let one : get_or (decimal n) 0 0 ≡ 48 → length (decimal n) ≡ 1 =
-    ⊎_elim (λ z. λ _. ap length (decimal_digit n (omega arith))) (λ p. λ e. absurd (omega (arith, first_decimal n p small))) (zero_or n) in
+    ⊎_elim (λ z. λ _. ap length (decimal_digit n (omega arith))) (λ p. λ e. absurd (omega (arith, first_decimal n p small))) (zero-or n) in
     shape (decimal n) (decimal_nonempty n small) one ∙ run 0 (decimal n) d ∙ ap Some v
 
 writes : (n : ℕ) (s : List ℕ) → n < 2 ^ 64 → number_of s ≡ Some n → decimal n ≡ s
@@ -66,6 +66,6 @@ within-at low high n (Some m) e lo hi = grind (arith, nat_tests)
 
 pub numbers-round : NumbersRound
 numbers-round = record {
-  read_back = λ low high n small lo hi. within-at low high n (number_of (decimal n)) (reads n (omega arith)) lo hi;
-  written_back = λ low high n s small e. let h = within-some low high n (number_of s) e in (writes n s (omega (arith, h.2)) h.0, h.1, h.2);
+  read-back = λ low high n small lo hi. within-at low high n (number_of (decimal n)) (reads n (omega arith)) lo hi;
+  written-back = λ low high n s small e. let h = within-some low high n (number_of s) e in (writes n s (omega (arith, h.2)) h.0, h.1, h.2);
 }

@@ -14,7 +14,7 @@ use Rattle.text.specs.Parts.{parts_of, rejoined, Lacks, All}
 use Rattle.text.specs.Numbers.{number_of, within}
 use Rattle.text.specs.Lists.{option_then, rising, dash, list_of, plus, list_text, places_from, members, listed, ListsRound}
 use Rattle.text.specs.declared.list.PlaceList.{PlaceList}
-use Rattle.text.proofs.Cuts.{Free, lacks-free, free-lacks, parts_whole, parts_cut, parts-some, rejoined-parts}
+use Rattle.text.proofs.Cuts.{Free, lacks-free, free-lacks, parts-whole, parts-cut, parts-some, rejoined-parts}
 use Rattle.text.proofs.Digits.{numbers-round}
 use Rattle.text.proofs.Members.{double, double-suc}
 
@@ -34,9 +34,9 @@ digits-free c n small lt k h e = not_in_digits (numerals_by_value _ tells_digits
 free : (c n : ℕ) → n ≤ 99 → c < 48 → Free c (decimal n)
 free c n le lt = digits-free c n (omega arith) lt
 
-reads_on : (last p : ℕ) (ps : List ℕ) → last < p → p ≤ 99 → Rising p ps → rising last (parts_of 43 (decimal p ++ flat_map plus ps)) ≡ Some (p ∷ ps)
-reads_on last p [] lt le r = rw (append-nil, parts_whole 43 (decimal p) (free 43 p le (omega arith)), numbers-round.read_back (last + 1) 99 p (omega arith) (omega arith) le)
-reads_on last p (q ∷ qs) lt le r = rw (parts_cut 43 (decimal p) (decimal q ++ flat_map plus qs) (free 43 p le (omega arith)), numbers-round.read_back (last + 1) 99 p (omega arith) (omega arith) le, reads_on p q qs r.0 r.1 r.2)
+reads-on : (last p : ℕ) (ps : List ℕ) → last < p → p ≤ 99 → Rising p ps → rising last (parts_of 43 (decimal p ++ flat_map plus ps)) ≡ Some (p ∷ ps)
+reads-on last p [] lt le r = rw (append-nil, parts-whole 43 (decimal p) (free 43 p le (omega arith)), numbers-round.read-back (last + 1) 99 p (omega arith) (omega arith) le)
+reads-on last p (q ∷ qs) lt le r = rw (parts-cut 43 (decimal p) (decimal q ++ flat_map plus qs) (free 43 p le (omega arith)), numbers-round.read-back (last + 1) 99 p (omega arith) (omega arith) le, reads-on p q qs r.0 r.1 r.2)
 
 no-dash : (s : List ℕ) (o : Option (List ℕ)) → (get_or s 0 0 ≡ 45 → ⊥) → dash s o ≡ o
 no-dash [] o ne = refl
@@ -48,7 +48,7 @@ reads [] r = refl
 reads (p ∷ ps) r =
     let some = decimal_nonempty p (omega arith) in
     let f = get_or_append_left (decimal p) (flat_map plus ps) 0 0 some in
-    no-dash (list_text (p ∷ ps)) _ (λ e. free 45 p r.1 (omega arith) 0 some (sym f ∙ e)) ∙ reads_on 0 p ps r.0 r.1 r.2
+    no-dash (list_text (p ∷ ps)) _ (λ e. free 45 p r.1 (omega arith) 0 some (sym f ∙ e)) ∙ reads-on 0 p ps r.0 r.1 r.2
 
 -- no comma stands in a list
 free-append : (c : ℕ) (xs ys : List ℕ) → Free c xs → Free c ys → Free c (xs ++ ys)
@@ -58,29 +58,29 @@ free-append c xs ys f g = free-lacks c (xs ++ ys) (lacks-append c xs ys (lacks-f
     lacks-append c [] ys l m = m
     lacks-append c (x ∷ xs) ys l m = (l.0, lacks-append c xs ys l.1 m)
 
-free_one : (c x : ℕ) (xs : List ℕ) → (x ≡ c → ⊥) → Free c xs → Free c (x ∷ xs)
-free_one c x xs ne f = free-lacks c (x ∷ xs) (ne, lacks-free c xs f)
+free-one : (c x : ℕ) (xs : List ℕ) → (x ≡ c → ⊥) → Free c xs → Free c (x ∷ xs)
+free-one c x xs ne f = free-lacks c (x ∷ xs) (ne, lacks-free c xs f)
 
 plus-free : (last : ℕ) (ps : List ℕ) → Rising last ps → Free 44 (flat_map plus ps)
 plus-free last [] r = free-lacks 44 [] tt
-plus-free last (p ∷ ps) r = free-append 44 (plus p) (flat_map plus ps) (free_one 44 43 (decimal p) (λ e. omega (arith, e)) (free 44 p r.1 (omega arith))) (plus-free p ps r.2)
+plus-free last (p ∷ ps) r = free-append 44 (plus p) (flat_map plus ps) (free-one 44 43 (decimal p) (λ e. omega (arith, e)) (free 44 p r.1 (omega arith))) (plus-free p ps r.2)
 
 rising-free : (ps : List ℕ) → Rising 0 ps → Free 44 (list_text ps)
-rising-free [] r = free_one 44 45 [] (λ e. omega (arith, e)) (free-lacks 44 [] tt)
+rising-free [] r = free-one 44 45 [] (λ e. omega (arith, e)) (free-lacks 44 [] tt)
 rising-free (p ∷ ps) r = free-append 44 (decimal p) (flat_map plus ps) (free 44 p r.1 (omega arith)) (plus-free p ps r.2)
 
 -- read and written again
-written_at : (last : ℕ) (p : List ℕ) (ps : List (List ℕ)) (res : List ℕ) → ((n : ℕ) (ns : List ℕ) → rising n ps ≡ Some ns → ps ≡ map decimal ns) → (o : Option ℕ) → within (last + 1) 99 (number_of p) ≡ o → (q : (n : ℕ) → Option (List ℕ)) → ((n : ℕ) → rising n ps ≡ q n) → option_then o (λ n. option_map (λ ns. n ∷ ns) (q n)) ≡ Some res → p ∷ ps ≡ map decimal res
-written_at last p ps res ih None w q h e = absurd (grind arith)
-written_at last p ps res ih (Some n) w q h e = at (q n) refl e
+written-at : (last : ℕ) (p : List ℕ) (ps : List (List ℕ)) (res : List ℕ) → ((n : ℕ) (ns : List ℕ) → rising n ps ≡ Some ns → ps ≡ map decimal ns) → (o : Option ℕ) → within (last + 1) 99 (number_of p) ≡ o → (q : (n : ℕ) → Option (List ℕ)) → ((n : ℕ) → rising n ps ≡ q n) → option_then o (λ n. option_map (λ ns. n ∷ ns) (q n)) ≡ Some res → p ∷ ps ≡ map decimal res
+written-at last p ps res ih None w q h e = absurd (grind arith)
+written-at last p ps res ih (Some n) w q h e = at (q n) refl e
   where
     at : (o : Option (List ℕ)) → q n ≡ o → option_map (λ ns. n ∷ ns) o ≡ Some res → p ∷ ps ≡ map decimal res
     at None k f = absurd (grind arith)
-    at (Some ns) k f = let d = numbers-round.written_back (last + 1) 99 n p (omega arith) w in let i = ih n ns (h n ∙ k) in let r : n ∷ ns ≡ res = grind arith in ap (λ x. x ∷ ps) (sym d.0) ∙ ap (λ x. decimal n ∷ x) i ∙ ap (map decimal) r
+    at (Some ns) k f = let d = numbers-round.written-back (last + 1) 99 n p (omega arith) w in let i = ih n ns (h n ∙ k) in let r : n ∷ ns ≡ res = grind arith in ap (λ x. x ∷ ps) (sym d.0) ∙ ap (λ x. decimal n ∷ x) i ∙ ap (map decimal) r
 
 written : (last : ℕ) (ps : List (List ℕ)) (res : List ℕ) → rising last ps ≡ Some res → ps ≡ map decimal res
 written last [] res e = let r : [] ≡ res = grind arith in ap (map decimal) r
-written last (p ∷ ps) res e = written_at last p ps res (λ n ns. written n ps ns) (within (last + 1) 99 (number_of p)) refl (λ n. rising n ps) (λ n. refl) e
+written last (p ∷ ps) res e = written-at last p ps res (λ n ns. written n ps ns) (within (last + 1) 99 (number_of p)) refl (λ n. rising n ps) (λ n. refl) e
 
 joined-map : (ps : List ℕ) → flat_map (λ q. 43 ∷ q) (map decimal ps) ≡ flat_map plus ps
 joined-map [] = refl
@@ -90,20 +90,20 @@ text-rejoined : (ps : List ℕ) → 0 < length ps → rejoined 43 (map decimal p
 text-rejoined [] some = absurd (omega arith)
 text-rejoined (p ∷ ps) some = ap (λ t. decimal p ++ t) (joined-map ps)
 
-from_parts : (s ps : List ℕ) → rising 0 (parts_of 43 s) ≡ Some ps → list_text ps ≡ s
-from_parts s ps e =
+from-parts : (s ps : List ℕ) → rising 0 (parts_of 43 s) ≡ Some ps → list_text ps ≡ s
+from-parts s ps e =
     let h = written 0 (parts_of 43 s) ps e in
     let some : 0 < length ps = omega (arith, parts-some 43 s, ap length h ∙ length-map ps decimal) in
     sym (text-rejoined ps some) ∙ ap (rejoined 43) (sym h) ∙ rejoined-parts 43 s
 
 lone : (c : ℕ) (ps : List ℕ) (b : Bool) → eqb c 45 ≡ b → cond b (Some []) (rising 0 (parts_of 43 (c ∷ []))) ≡ Some ps → list_text ps ≡ c ∷ []
 lone c ps true q e = let n : ps ≡ [] = grind arith in rw (n, eqb-true c 45 q)
-lone c ps false q e = from_parts (c ∷ []) ps e
+lone c ps false q e = from-parts (c ∷ []) ps e
 
 writes : (s ps : List ℕ) → list_of s ≡ Some ps → list_text ps ≡ s
-writes [] ps e = from_parts [] ps e
+writes [] ps e = from-parts [] ps e
 writes (c ∷ []) ps e = lone c ps (eqb c 45) refl e
-writes (c ∷ d ∷ ds) ps e = from_parts (c ∷ d ∷ ds) ps e
+writes (c ∷ d ∷ ds) ps e = from-parts (c ∷ d ∷ ds) ps e
 
 -- the places tell the set
 mask_of : List ℕ → ℕ
@@ -128,8 +128,8 @@ members-same : (m n : ℕ) → m < 2 ^ 99 → n < 2 ^ 99 → members m ≡ membe
 unfolding members
 members-same m n a b e = omega (arith, mask-from 99 1 m a, mask-from 99 1 n b, ap mask_of e)
 
-list_same : (k l : PlaceList) → k.bits ≡ l.bits → k ≡ l
-list_same k l e = λ i. record { bits = e i; few = is_prop→PathP (λ j. e j < 2 ^ 99) (λ j. le_prop) k.few l.few i }
+list-same : (k l : PlaceList) → k.bits ≡ l.bits → k ≡ l
+list-same k l e = λ i. record { bits = e i; few = is_prop→PathP (λ j. e j < 2 ^ 99) (λ j. le_prop) k.few l.few i }
 
 members-rise : (m : ℕ) → Rising 0 (members m)
 unfolding members
@@ -139,8 +139,8 @@ pub list-free : (l : PlaceList) → Free 44 (list_text (listed l))
 list-free l = rising-free (listed l) (members-rise l.bits)
 
 -- a list of a ticket's own places is short
-two_digits : (n : ℕ) → n ≤ 99 → length (decimal n) ≤ 2
-two_digits n le = length-decimal-le 2 n (omega arith) (omega arith) (omega arith)
+two-digits : (n : ℕ) → n ≤ 99 → length (decimal n) ≤ 2
+two-digits n le = length-decimal-le 2 n (omega arith) (omega arith) (omega arith)
 
 few-places : (last : ℕ) (ps : List ℕ) → Rising last ps → last ≤ 64 → All (λ p. p ≤ 64) ps → length ps + last ≤ 64
 few-places last [] r le a = omega arith
@@ -148,18 +148,18 @@ few-places last (p ∷ ps) r le a = omega (arith, r.0, few-places p ps r.2 a.0 a
 
 short-joined : (last : ℕ) (ps : List ℕ) → Rising last ps → length (flat_map plus ps) ≤ 3 * length ps
 short-joined last [] r = omega arith
-short-joined last (p ∷ ps) r = omega (arith, length-append (plus p) (flat_map plus ps), two_digits p r.1, short-joined p ps r.2)
+short-joined last (p ∷ ps) r = omega (arith, length-append (plus p) (flat_map plus ps), two-digits p r.1, short-joined p ps r.2)
 
 short-list : (ps : List ℕ) → Rising 0 ps → length (list_text ps) ≤ 3 * length ps + 1
 short-list [] r = omega arith
-short-list (p ∷ ps) r = omega (arith, length-append (decimal p) (flat_map plus ps), two_digits p r.1, short-joined p ps r.2)
+short-list (p ∷ ps) r = omega (arith, length-append (decimal p) (flat_map plus ps), two-digits p r.1, short-joined p ps r.2)
 
 pub list-fits : (l : PlaceList) → All (λ p. p ≤ 64) (listed l) → length (list_text (listed l)) ≤ 193
 list-fits l a = let r = members-rise l.bits in omega (arith, short-list (listed l) r, few-places 0 (listed l) r (omega arith) a)
 
 pub lists-round : ListsRound
 lists-round = record {
-  read_back = λ l. reads (listed l) (members-rise l.bits);
-  written_back = writes;
-  same = λ k l e. list_same k l (members-same k.bits l.bits k.few l.few e);
+  read-back = λ l. reads (listed l) (members-rise l.bits);
+  written-back = writes;
+  same = λ k l e. list-same k l (members-same k.bits l.bits k.few l.few e);
 }

@@ -10,18 +10,18 @@ double p = let d = pow-add 2 p 1 in omega arith
 pub double-suc : (p : ℕ) → 2 ^ suc p ≡ 2 * 2 ^ p
 double-suc p = ap (λ k. 2 ^ k) (sym (add-one p)) ∙ double p
 
-none_from : (f p : ℕ) → places_from f p 0 ≡ []
-none_from zero p = refl
-none_from (suc f) p = none_from f (p + 1)
+none-from : (f p : ℕ) → places_from f p 0 ≡ []
+none-from zero p = refl
+none-from (suc f) p = none-from f (p + 1)
 
 pub members-none : members 0 ≡ []
 unfolding members
-members-none = none_from 99 1
+members-none = none-from 99 1
 
 -- one place more, above all others
 push-from : (k f p m : ℕ) → m < 2 ^ k → k < f → places_from f p (m + 2 ^ k) ≡ places_from f p m ++ ((p + k) ∷ [])
 push-from zero zero p m lt le = absurd (omega arith)
-push-from zero (suc f) p m lt le = let z : m ≡ 0 = omega arith in let q : p + 0 ≡ p = omega arith in rw (z, q, none_from f (p + 1))
+push-from zero (suc f) p m lt le = let z : m ≡ 0 = omega arith in let q : p + 0 ≡ p = omega arith in rw (z, q, none-from f (p + 1))
 push-from (suc k) zero p m lt le = absurd (omega arith)
 push-from (suc k) (suc f) p m lt le =
     let d = double-suc k in

@@ -30,8 +30,8 @@ module _ (rest : List (List ℕ)) (part : List ℕ) (ps : List (List ℕ)) (bits
       let push = ap (λ y. members (bits + y)) b ∙ members-push bits n w.1 w.2 m.1 in
       sym (rising-more last part ps (members bits) (members (bits + x)) n number lt push) ∙ ap (λ l. option_map (λ ns. members bits ++ ns) (rising last l)) (sym cut) ∙ so_far
 
-pub place_end : (rest : List (List ℕ)) (part : List ℕ) (bits last n x : ℕ) (total : Option (List ℕ)) → option_map (λ ns. members bits ++ ns) (rising last rest) ≡ total → rest ≡ part ∷ [] → within 1 99 (number_of part) ≡ Some n → last < n → bits < 2 ^ last → x ≡ 2 ^ (n - 1) → total ≡ Some (members (bits + x))
-place_end rest part bits last n x total so_far cut number lt few b =
+pub place-end : (rest : List (List ℕ)) (part : List ℕ) (bits last n x : ℕ) (total : Option (List ℕ)) → option_map (λ ns. members bits ++ ns) (rising last rest) ≡ total → rest ≡ part ∷ [] → within 1 99 (number_of part) ≡ Some n → last < n → bits < 2 ^ last → x ≡ 2 ^ (n - 1) → total ≡ Some (members (bits + x))
+place-end rest part bits last n x total so_far cut number lt few b =
     sym (place-more rest part [] bits last n x total so_far cut number lt few b) ∙ ap Some (append-nil (members (bits + x)))
 
 pub place-first : (o : Option (List ℕ)) → option_map (λ ns. members 0 ++ ns) o ≡ o

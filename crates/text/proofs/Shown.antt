@@ -36,24 +36,24 @@ text-whole (p ∷ ps) = refl
 unfoldable pub from_place : ℕ → ℕ → List ℕ
 from_place p m = places_from (100 - p) p m
 
-from_more : (p m : ℕ) → p < 100 → from_place p m ≡ cond (eqb (m % 2) 1) (p ∷ from_place (p + 1) (m / 2)) (from_place (p + 1) (m / 2))
+from-more : (p m : ℕ) → p < 100 → from_place p m ≡ cond (eqb (m % 2) 1) (p ∷ from_place (p + 1) (m / 2)) (from_place (p + 1) (m / 2))
 unfolding from_place
-from_more p m lt = let e : 100 - p ≡ suc (100 - (p + 1)) = omega arith in rw e
+from-more p m lt = let e : 100 - p ≡ suc (100 - (p + 1)) = omega arith in rw e
 
 module _ (ps ms : List ℕ) (p m : ℕ) where
   from-take : p < 100 → m % 2 ≡ 1 → ps ++ from_place p m ≡ ms → (ps ++ (p ∷ [])) ++ from_place (p + 1) (m / 2) ≡ ms
-  from-take lt o h = append_assoc ps (p ∷ []) _ ∙ ap (λ t. ps ++ t) (sym (from_more p m lt ∙ rw (eq-eqb (m % 2) 1 o))) ∙ h
+  from-take lt o h = append_assoc ps (p ∷ []) _ ∙ ap (λ t. ps ++ t) (sym (from-more p m lt ∙ rw (eq-eqb (m % 2) 1 o))) ∙ h
 
   from-pass : p < 100 → (m % 2 ≡ 1 → ⊥) → ps ++ from_place p m ≡ ms → ps ++ from_place (p + 1) (m / 2) ≡ ms
-  from-pass lt o h = ap (λ t. ps ++ t) (sym (from_more p m lt ∙ rw (ne_eqb (m % 2) 1 o))) ∙ h
+  from-pass lt o h = ap (λ t. ps ++ t) (sym (from-more p m lt ∙ rw (ne_eqb (m % 2) 1 o))) ∙ h
 
-  from_end : 100 ≤ p → ps ++ from_place p m ≡ ms → ps ≡ ms
+  from-end : 100 ≤ p → ps ++ from_place p m ≡ ms → ps ≡ ms
   unfolding from_place
-  from_end le h = let z : 100 - p ≡ 0 = omega arith in sym (append-nil ps) ∙ ap (λ f. ps ++ places_from f p m) (sym z) ∙ h
+  from-end le h = let z : 100 - p ≡ 0 = omega arith in sym (append-nil ps) ∙ ap (λ f. ps ++ places_from f p m) (sym z) ∙ h
 
-from_start : (m : ℕ) → from_place 1 m ≡ members m
+from-start : (m : ℕ) → from_place 1 m ≡ members m
 unfolding members from_place
-from_start m = refl
+from-start m = refl
 
 -- the list ms is being written to what e was, and these places are to come
 abbrev pub Writing : {W : Type 0} → (W → List ℕ → W → Type 0) → List ℕ → Formatter W → ℕ → ℕ → Bool → Formatter W → Type 0
@@ -61,7 +61,7 @@ Writing took ms e p m first f = (ps : List ℕ) × (ps ++ from_place p m ≡ ms)
 
 module _ {W : Type 0} (took : W → List ℕ → W → Type 0) where
   pub writing-none : (e : Formatter W) (m : ℕ) → Writing took (members m) e 1 m true e
-  writing-none e m = ([], from_start m, refl, λ plain. record { wrote = writes_in_calls_nil took _; plain = plain })
+  writing-none e m = ([], from-start m, refl, λ plain. record { wrote = writes_in_calls_nil took _; plain = plain })
 
   module _ (ms : List ℕ) (e : Formatter W) (p m : ℕ) (first : Bool) (f : Formatter W) (so_far : Writing took ms e p m first f) where
     pub writing-take : p < 100 → m % 2 ≡ 1 → (r : Result (Unit {0}) Error) (h : Formatter W) → is_ok r ≡ true → WritesOnOk took f r (cond first (decimal p) (plus p)) h → (b : Bool) (g : Formatter W) → b ≡ false → g ≡ h → Writing took ms e (p + 1) (m / 2) b g
@@ -73,11 +73,11 @@ module _ {W : Type 0} (took : W → List ℕ → W → Type 0) where
           has_written_to_eq took _ _ _ _ ge (has_written_of_eq took _ _ _ _ (ap (λ y. text_of so_far.0 ++ cond y (decimal p) (plus p)) so_far.2 ∙ sym (text-push so_far.0 p)) (has_written_append took _ _ _ _ _ x (w x.plain ok))),
     )
 
-    pub writing_pass : p < 100 → (m % 2 ≡ 1 → ⊥) → (b : Bool) (g : Formatter W) → b ≡ first → g ≡ f → Writing took ms e (p + 1) (m / 2) b g
-    writing_pass lt o b g be ge = (so_far.0, from-pass so_far.0 ms p m lt o so_far.1, be ∙ so_far.2, λ plain. has_written_to_eq took _ _ _ _ ge (so_far.3 plain))
+    pub writing-pass : p < 100 → (m % 2 ≡ 1 → ⊥) → (b : Bool) (g : Formatter W) → b ≡ first → g ≡ f → Writing took ms e (p + 1) (m / 2) b g
+    writing-pass lt o b g be ge = (so_far.0, from-pass so_far.0 ms p m lt o so_far.1, be ∙ so_far.2, λ plain. has_written_to_eq took _ _ _ _ ge (so_far.3 plain))
 
     text-done : 100 ≤ p → list_text ms ≡ cond first (45 ∷ []) (text_of so_far.0)
-    text-done le = ap list_text (sym (from_end so_far.0 ms p m le so_far.1)) ∙ text-whole so_far.0 ∙ ap (λ y. cond y (45 ∷ []) (text_of so_far.0)) (sym so_far.2)
+    text-done le = ap list_text (sym (from-end so_far.0 ms p m le so_far.1)) ∙ text-whole so_far.0 ∙ ap (λ y. cond y (45 ∷ []) (text_of so_far.0)) (sym so_far.2)
 
     pub written-some : 100 ≤ p → first ≡ false → IsPlainFormatter e → HasWritten took e (list_text ms) f
     written-some le b plain = has_written_of_eq took _ _ _ _ (sym (text-done le ∙ ap (λ y. cond y (45 ∷ []) (text_of so_far.0)) b)) (so_far.3 plain)
@@ -86,8 +86,8 @@ module _ {W : Type 0} (took : W → List ℕ → W → Type 0) where
     none-text [] b = refl
     none-text (q ∷ qs) b = let z : true ≡ false = b in absurd (grind arith)
 
-    pub written_none : 100 ≤ p → first ≡ true → (r : Result (Unit {0}) Error) (h : Formatter W) → is_ok r ≡ true → WritesOnOk took f r (45 ∷ []) h → IsPlainFormatter e → HasWritten took e (list_text ms) h
-    written_none le b r h ok w plain =
+    pub written-none : 100 ≤ p → first ≡ true → (r : Result (Unit {0}) Error) (h : Formatter W) → is_ok r ≡ true → WritesOnOk took f r (45 ∷ []) h → IsPlainFormatter e → HasWritten took e (list_text ms) h
+    written-none le b r h ok w plain =
         let x = so_far.3 plain in
         let y = has_written_of_eq took _ _ _ _ (none-text so_far.0 (sym b ∙ so_far.2)) x in
         has_written_of_eq took _ _ _ _ (sym (text-done le ∙ ap (λ z. cond z (45 ∷ []) (text_of so_far.0)) b)) (has_written_append took _ _ _ _ _ y (w x.plain ok))

@@ -57,6 +57,6 @@ listed l = members l.bits
 
 -- a list written and read again is the same list; a text read and written again is the same text
 pub record ListsRound : Type 0 where
-  pub read_back : (l : PlaceList) → list_of (list_text (listed l)) ≡ Some (listed l)
-  pub written_back : (s ps : List ℕ) → list_of s ≡ Some ps → list_text ps ≡ s
+  pub read-back : (l : PlaceList) → list_of (list_text (listed l)) ≡ Some (listed l)
+  pub written-back : (s ps : List ℕ) → list_of s ≡ Some ps → list_text ps ≡ s
   pub same : (k l : PlaceList) → listed k ≡ listed l → k ≡ l

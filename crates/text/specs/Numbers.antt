@@ -27,5 +27,5 @@ number_at low high line field s = ok_or (within low high (number_of s)) (fault_o
 
 -- a text is read as n exactly where it is what is written of n, and n is in range
 pub record NumbersRound : Type 0 where
-  pub read_back : (low high n : ℕ) → high < 2 ^ 64 → low ≤ n → n ≤ high → within low high (number_of (decimal n)) ≡ Some n
-  pub written_back : (low high n : ℕ) (s : List ℕ) → high < 2 ^ 64 → within low high (number_of s) ≡ Some n → (decimal n ≡ s) × (low ≤ n) × (n ≤ high)
+  pub read-back : (low high n : ℕ) → high < 2 ^ 64 → low ≤ n → n ≤ high → within low high (number_of (decimal n)) ≡ Some n
+  pub written-back : (low high n : ℕ) (s : List ℕ) → high < 2 ^ 64 → within low high (number_of s) ≡ Some n → (decimal n ≡ s) × (low ≤ n) × (n ≤ high)

@@ -15,22 +15,22 @@ ended-more : (p : List ℕ) (ps : List (List ℕ)) → 0 < length ps → ended (
 ended-more p [] some = absurd (omega arith)
 ended-more p (q ∷ qs) some = refl
 
-pub lines_cut : (s p rest : List ℕ) → parts_of 10 s ≡ p ∷ parts_of 10 rest → lines_of s ≡ p ∷ lines_of rest
-lines_cut s p rest e = ap ended e ∙ ended-more p (parts_of 10 rest) (parts-some 10 rest)
+pub lines-cut : (s p rest : List ℕ) → parts_of 10 s ≡ p ∷ parts_of 10 rest → lines_of s ≡ p ∷ lines_of rest
+lines-cut s p rest e = ap ended e ∙ ended-more p (parts_of 10 rest) (parts-some 10 rest)
 
-last_some : (p : List ℕ) → 0 < length p → last_line p ≡ p ∷ []
-last_some [] some = absurd (omega arith)
-last_some (c ∷ cs) some = refl
+last-some : (p : List ℕ) → 0 < length p → last_line p ≡ p ∷ []
+last-some [] some = absurd (omega arith)
+last-some (c ∷ cs) some = refl
 
 pub lines-last : (s p : List ℕ) → parts_of 10 s ≡ p ∷ [] → s ≡ p → 0 < length s → lines_of s ≡ p ∷ []
-lines-last s p e w some = ap ended e ∙ last_some p (omega (arith, ap length w))
+lines-last s p e w some = ap ended e ∙ last-some p (omega (arith, ap length w))
 
 -- the text of the lines, and what may lack of it
 Whole : List ℕ → List (List ℕ) → Type 0
 Whole s ls = (lines_text ls ≡ s) ⊎ ((lines_text ls ≡ s ++ (10 ∷ [])) × (0 < length s) × (get_or s (length s - 1) 0 ≡ 10 → ⊥))
 
-last_of : (xs ys : List ℕ) → 0 < length ys → get_or (xs ++ ys) (length (xs ++ ys) - 1) 0 ≡ get_or ys (length ys - 1) 0
-last_of xs ys some =
+last-of : (xs ys : List ℕ) → 0 < length ys → get_or (xs ++ ys) (length (xs ++ ys) - 1) 0 ≡ get_or ys (length ys - 1) 0
+last-of xs ys some =
     let l = length-append xs ys in
     let e : length (xs ++ ys) - 1 ≡ length xs + (length ys - 1) = omega arith in
     ap (λ k. get_or (xs ++ ys) k 0) e ∙ get_or-append-add xs ys (length ys - 1) 0
@@ -38,13 +38,13 @@ last_of xs ys some =
 last-lacks : (p : List ℕ) → 0 < length p → Lacks 10 p → get_or p (length p - 1) 0 ≡ 10 → ⊥
 last-lacks p some l e = free-lacks 10 p l (length p - 1) (omega arith) e
 
-one_line : (p : List ℕ) → lines_text (p ∷ []) ≡ p ++ (10 ∷ [])
-one_line p = append-nil (p ++ (10 ∷ []))
+one-line : (p : List ℕ) → lines_text (p ∷ []) ≡ p ++ (10 ∷ [])
+one-line p = append-nil (p ++ (10 ∷ []))
 
 whole-last : (p : List ℕ) → Lacks 10 p → Whole p (last_line p)
 unfolding Whole
 whole-last [] l = inl refl
-whole-last (c ∷ cs) l = inr (one_line (c ∷ cs), omega arith, last-lacks (c ∷ cs) (omega arith) l)
+whole-last (c ∷ cs) l = inr (one-line (c ∷ cs), omega arith, last-lacks (c ∷ cs) (omega arith) l)
 
 -- one line more in front
 module _ (p t : List ℕ) (ls : List (List ℕ)) where
@@ -59,7 +59,7 @@ module _ (p t : List ℕ) (ls : List (List ℕ)) where
       (λ h. let l = length-append p (10 ∷ t) in
       let e : length (10 ∷ t) - 1 ≡ 1 + (length t - 1) = omega (arith, h.1) in
       let d : get_or (10 ∷ t) (length (10 ∷ t) - 1) 0 ≡ get_or t (length t - 1) 0 = ap (λ k. get_or (10 ∷ t) k 0) e ∙ get_or-append-add (10 ∷ []) t (length t - 1) 0 in
-      inr (more-line ∙ ap (λ x. p ++ (10 ∷ x)) h.0 ∙ sym (append_assoc p (10 ∷ t) (10 ∷ [])), omega arith, λ x. h.2 (sym d ∙ sym (last_of p (10 ∷ t) (omega arith)) ∙ x)))
+      inr (more-line ∙ ap (λ x. p ++ (10 ∷ x)) h.0 ∙ sym (append_assoc p (10 ∷ t) (10 ∷ [])), omega arith, λ x. h.2 (sym d ∙ sym (last-of p (10 ∷ t) (omega arith)) ∙ x)))
 
 whole-ended : (ps : List (List ℕ)) → 0 < length ps → All (Lacks 10) ps → Whole (rejoined 10 ps) (ended ps)
 whole-ended [] some a = absurd (omega arith)
@@ -82,9 +82,9 @@ splits s = record {
   whole = subst (λ x. Whole x (lines_of s)) (rejoined-parts 10 s) (whole-ended (parts_of 10 s) (parts-some 10 s) (parts-lack 10 s));
 }
 
-pub told_is : (r : Result Entry Fault) (wanted : Result Said Fault) → Gives said r wanted → wanted ≡ told r
-told_is (Ok e) wanted g = g
-told_is (Err f) wanted g = g
+pub told-is : (r : Result Entry Fault) (wanted : Result Said Fault) → Gives said r wanted → wanted ≡ told r
+told-is (Ok e) wanted g = g
+told-is (Err f) wanted g = g
 
 -- one reading more
 pub readings-more : (dialect : Dialect) (n : ℕ) (line rest s : List ℕ) (all : List (Result Said Fault)) (xs ys : List (Result Entry Fault)) (x : Result Entry Fault) → ys ≡ xs ++ (x ∷ []) → line_at dialect n line ≡ told x → lines_of s ≡ line ∷ lines_of rest → map told xs ++ readings dialect n (lines_of s) ≡ all → map told ys ++ readings dialect (n + 1) (lines_of rest) ≡ all

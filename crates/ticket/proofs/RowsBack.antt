@@ -24,18 +24,18 @@ use Rattle.text.specs.Numbers.{number_of, within, number_at}
 use Rattle.text.specs.Parts.{rejoined}
 use Rattle.ticket.specs.Rows.{row_text, row_letter, OnTicket, RowsRound}
 use Rattle.ticket.specs.Words.{knows_letter, known, letter_of, letter_at, word_at, field_count}
-use Rattle.text.proofs.Cuts.{Free, free-lacks, parts_whole, parts_cut, rejoined-parts}
+use Rattle.text.proofs.Cuts.{Free, free-lacks, parts-whole, parts-cut, rejoined-parts}
 use Rattle.text.proofs.Digits.{numbers-round}
 use Rattle.text.proofs.Lists.{lists-round, digits-free, list-free, list-fits}
 
 -- the four fields of a row
-one_free : (letter : ℕ) → (letter ≡ 44 → ⊥) → Free 44 (letter ∷ [])
-one_free letter ne = free-lacks 44 (letter ∷ []) (ne, tt)
+one-free : (letter : ℕ) → (letter ≡ 44 → ⊥) → Free 44 (letter ∷ [])
+one-free letter ne = free-lacks 44 (letter ∷ []) (ne, tt)
 
 four-fields : (letter : ℕ) (a b d : List ℕ) → (letter ≡ 44 → ⊥) → Free 44 a → Free 44 b → Free 44 d → fields_of ((letter ∷ []) ++ (44 ∷ (a ++ (44 ∷ (b ++ (44 ∷ d)))))) ≡ (letter ∷ []) ∷ a ∷ b ∷ d ∷ []
 four-fields letter a b d ne fa fb fd =
-    parts_cut 44 (letter ∷ []) (a ++ (44 ∷ (b ++ (44 ∷ d)))) (one_free letter ne)
-    ∙ ap (λ t. (letter ∷ []) ∷ t) (parts_cut 44 a (b ++ (44 ∷ d)) fa ∙ ap (λ t. a ∷ t) (parts_cut 44 b d fb ∙ ap (λ t. b ∷ t) (parts_whole 44 d fd)))
+    parts-cut 44 (letter ∷ []) (a ++ (44 ∷ (b ++ (44 ∷ d)))) (one-free letter ne)
+    ∙ ap (λ t. (letter ∷ []) ∷ t) (parts-cut 44 a (b ++ (44 ∷ d)) fa ∙ ap (λ t. a ∷ t) (parts-cut 44 b d fb ∙ ap (λ t. b ∷ t) (parts-whole 44 d fd)))
 
 short-line : (dialect : Dialect) (line : ℕ) (s : List ℕ) (fs : List (List ℕ)) → length s ≤ 400 → fields_of s ≡ fs → line_at dialect line s ≡ fields_at dialect line fs
 short-line dialect line s fs short e = let b : ltb 400 (length s) ≡ false = grind (arith, nat_tests) in rw (b, e)
@@ -43,15 +43,15 @@ short-line dialect line s fs short e = let b : ltb 400 (length s) ≡ false = gr
 reads : (dialect : Dialect) (line : ℕ) (row : Row) → knows_letter dialect (row_letter (bounds row)) ≡ true → length (row_text (bounds row)) ≤ 400 → line_at dialect line (row_text (bounds row)) ≡ Ok (declare (bounds row))
 reads dialect line (Group cell sure possible) k short =
     short-line dialect line (row_text (bounds (Group cell sure possible))) _ short (four-fields 71 (decimal cell.number) (list_text (listed sure)) (list_text (listed possible)) (λ e. omega (arith, e)) (digits-free 44 cell.number (omega (arith, cell.most)) (omega arith)) (list-free sure) (list-free possible))
-    ∙ rw (k, numbers-round.read_back 1 99 cell.number (omega arith) cell.least cell.most, lists-round.read_back sure, lists-round.read_back possible)
+    ∙ rw (k, numbers-round.read-back 1 99 cell.number (omega arith) cell.least cell.most, lists-round.read-back sure, lists-round.read-back possible)
 reads dialect line (Number cell low high) k short =
     short-line dialect line (row_text (bounds (Number cell low high))) _ short (four-fields 78 (decimal cell.number) (decimal low.value) (decimal high.value) (λ e. omega (arith, e)) (digits-free 44 cell.number (omega (arith, cell.most)) (omega arith)) (digits-free 44 low.value (omega (arith, low.most)) (omega arith)) (digits-free 44 high.value (omega (arith, high.most)) (omega arith)))
-    ∙ rw (k, numbers-round.read_back 1 99 cell.number (omega arith) cell.least cell.most, numbers-round.read_back 0 1000000 low.value (omega arith) (omega arith) low.most, numbers-round.read_back 0 1000000 high.value (omega arith) (omega arith) high.most)
+    ∙ rw (k, numbers-round.read-back 1 99 cell.number (omega arith) cell.least cell.most, numbers-round.read-back 0 1000000 low.value (omega arith) (omega arith) low.most, numbers-round.read-back 0 1000000 high.value (omega arith) (omega arith) high.most)
 
 -- what an answer that is an entry tells of the reading
-then_ok : {X Y E : Type 0} (r : Result X E) (f : X → Result Y E) (y : Y) → and_then r f ≡ Ok y → (x : X) × (r ≡ Ok x) × (f x ≡ Ok y)
-then_ok (Ok x) f y e = (x, refl, e)
-then_ok (Err d) f y e = absurd (let z : ◌≡◌ {A = ℕ} 0 1 = cc in omega arith)
+then-ok : {X Y E : Type 0} (r : Result X E) (f : X → Result Y E) (y : Y) → and_then r f ≡ Ok y → (x : X) × (r ≡ Ok x) × (f x ≡ Ok y)
+then-ok (Ok x) f y e = (x, refl, e)
+then-ok (Err d) f y e = absurd (let z : ◌≡◌ {A = ℕ} 0 1 = cc in omega arith)
 
 some-ok : {X E : Type 0} (o : Option X) (d : E) (x : X) → ok_or o d ≡ Ok x → o ≡ Some x
 some-ok (Some y) d x e = let z : y ≡ x = cc in ap Some z
@@ -73,24 +73,24 @@ cond-err : {Y E : Type 0} (t : Bool) (r : Result Y E) (d : E) (y : Y) → cond t
 cond-err true r d y e = absurd (let z : ◌≡◌ {A = ℕ} 0 1 = cc in omega arith)
 cond-err false r d y e = e
 
-known_some : (dialect : Dialect) (o : Option Letter) (letter : Letter) → known dialect o ≡ Some letter → o ≡ Some letter
-known_some dialect None letter e = absurd (grind arith)
-known_some dialect (Some l) letter e = grind (arith, nat_tests)
+known-some : (dialect : Dialect) (o : Option Letter) (letter : Letter) → known dialect o ≡ Some letter → o ≡ Some letter
+known-some dialect None letter e = absurd (grind arith)
+known-some dialect (Some l) letter e = grind (arith, nat_tests)
 
 letter-ok : (dialect : Dialect) (line : ℕ) (f : List ℕ) (letter : Letter) → letter_at dialect line f ≡ Ok letter → (c : ℕ) × (f ≡ c ∷ []) × (letter_of c ≡ Some letter)
 letter-ok dialect line [] letter e = absurd (let z : ◌≡◌ {A = ℕ} 0 1 = cc in omega arith)
-letter-ok dialect line (c ∷ []) letter e = (c, refl, known_some dialect (letter_of c) letter (some-ok (known dialect (letter_of c)) _ letter e))
+letter-ok dialect line (c ∷ []) letter e = (c, refl, known-some dialect (letter_of c) letter (some-ok (known dialect (letter_of c)) _ letter e))
 letter-ok dialect line (c ∷ d ∷ ds) letter e = absurd (let z : ◌≡◌ {A = ℕ} 0 1 = cc in omega arith)
 
 -- the text of a field that is read as a number, or as a list
 number-text : (low high line k n : ℕ) (f : List ℕ) → high < 2 ^ 64 → number_at low high line k f ≡ Ok n → decimal n ≡ f
-number-text low high line k n f small e = (numbers-round.written_back low high n f small (some-ok (within low high (number_of f)) _ n e)).0
+number-text low high line k n f small e = (numbers-round.written-back low high n f small (some-ok (within low high (number_of f)) _ n e)).0
 
 list-text : (line k : ℕ) (ps f : List ℕ) → list_at line k f ≡ Ok ps → list_text ps ≡ f
-list-text line k ps f e = lists-round.written_back f ps (some-ok (list_of f) _ ps e)
+list-text line k ps f e = lists-round.written-back f ps (some-ok (list_of f) _ ps e)
 
-row_of : (letter : ℕ) (x y z a b c : List ℕ) → x ≡ a → y ≡ b → z ≡ c → letter ∷ 44 ∷ (x ++ (44 ∷ (y ++ (44 ∷ z)))) ≡ rejoined 44 ((letter ∷ []) ∷ a ∷ b ∷ c ∷ [])
-row_of letter x y z a b c p q r = rw (p, q, r, append-nil)
+row-of : (letter : ℕ) (x y z a b c : List ℕ) → x ≡ a → y ≡ b → z ≡ c → letter ∷ 44 ∷ (x ++ (44 ∷ (y ++ (44 ∷ z)))) ≡ rejoined 44 ((letter ∷ []) ∷ a ∷ b ∷ c ∷ [])
+row-of letter x y z a b c p q r = rw (p, q, r, append-nil)
 
 declared : {x y : Bounds} → ◌≡◌ {A = Result Said Fault} (Ok (declare x)) (Ok (declare y)) → x ≡ y
 declared e = cc
@@ -101,48 +101,48 @@ module _ (line c : ℕ) (fs : List (List ℕ)) (b : Bounds) (many : length fs + 
 
   group-written : c ≡ 71 → group_at line fs ≡ Ok (declare b) → row_text b ≡ rejoined 44 ((c ∷ []) ∷ fs)
   group-written l e =
-      let x = then_ok (cell_at line 2 fs) _ _ e in
-      let y = then_ok (places_at line 3 fs) _ _ x.2 in
-      let z = then_ok (places_at line 4 fs) _ _ y.2 in
+      let x = then-ok (cell_at line 2 fs) _ _ e in
+      let y = then-ok (places_at line 3 fs) _ _ x.2 in
+      let z = then-ok (places_at line 4 fs) _ _ y.2 in
       let d : b ≡ group x.0 y.0 z.0 = sym (declared z.2) in
-      ap row_text d ∙ row_of 71 _ _ _ _ _ _ (number-text 1 99 line 2 x.0 _ (omega arith) x.1) (list-text line 3 y.0 _ y.1) (list-text line 4 z.0 _ z.1)
+      ap row_text d ∙ row-of 71 _ _ _ _ _ _ (number-text 1 99 line 2 x.0 _ (omega arith) x.1) (list-text line 3 y.0 _ y.1) (list-text line 4 z.0 _ z.1)
       ∙ ap (λ t. rejoined 44 ((t ∷ []) ∷ get_or fs 0 [] ∷ get_or fs 1 [] ∷ get_or fs 2 [] ∷ [])) (sym l) ∙ whole
 
   range-written : c ≡ 78 → range_at line fs ≡ Ok (declare b) → row_text b ≡ rejoined 44 ((c ∷ []) ∷ fs)
   range-written l e =
-      let x = then_ok (cell_at line 2 fs) _ _ e in
-      let y = then_ok (amount_at line 3 fs) _ _ x.2 in
-      let z = then_ok (amount_at line 4 fs) _ _ y.2 in
+      let x = then-ok (cell_at line 2 fs) _ _ e in
+      let y = then-ok (amount_at line 3 fs) _ _ x.2 in
+      let z = then-ok (amount_at line 4 fs) _ _ y.2 in
       let d : b ≡ number x.0 y.0 z.0 = sym (declared z.2) in
-      ap row_text d ∙ row_of 78 _ _ _ _ _ _ (number-text 1 99 line 2 x.0 _ (omega arith) x.1) (number-text 0 1000000 line 3 y.0 _ (omega arith) y.1) (number-text 0 1000000 line 4 z.0 _ (omega arith) z.1)
+      ap row_text d ∙ row-of 78 _ _ _ _ _ _ (number-text 1 99 line 2 x.0 _ (omega arith) x.1) (number-text 0 1000000 line 3 y.0 _ (omega arith) y.1) (number-text 0 1000000 line 4 z.0 _ (omega arith) z.1)
       ∙ ap (λ t. rejoined 44 ((t ∷ []) ∷ get_or fs 0 [] ∷ get_or fs 1 [] ∷ get_or fs 2 [] ∷ [])) (sym l) ∙ whole
 
 -- lines of other letters are no rows
 module _ (line : ℕ) (fs : List (List ℕ)) (b : Bounds) where
   not-bale : bale_at line fs ≡ Ok (declare b) → ⊥
   not-bale e =
-      let x = then_ok (place_at line 2 fs) _ _ e in
-      let y = then_ok (weight_at line 3 fs) _ _ x.2 in
+      let x = then-ok (place_at line 2 fs) _ _ e in
+      let y = then-ok (weight_at line 3 fs) _ _ x.2 in
       let h = y.2 in let z : ◌≡◌ {A = ℕ} 0 1 = cc in omega arith
 
   not-settle : settle_at line fs ≡ Ok (declare b) → ⊥
-  not-settle e = let x = then_ok (amount_at line 2 fs) _ _ e in let h = x.2 in let z : ◌≡◌ {A = ℕ} 0 1 = cc in omega arith
+  not-settle e = let x = then-ok (amount_at line 2 fs) _ _ e in let h = x.2 in let z : ◌≡◌ {A = ℕ} 0 1 = cc in omega arith
 
   not-operands : (w : Word) → operands_at line fs w ≡ Ok (declare b) → ⊥
   not-operands (Pair word) e =
-      let x = then_ok (cell_at line 3 fs) _ _ e in
-      let y = then_ok (cell_at line 4 fs) _ _ x.2 in
-      let u = then_ok (unused_at line 5 fs) _ _ y.2 in
+      let x = then-ok (cell_at line 3 fs) _ _ e in
+      let y = then-ok (cell_at line 4 fs) _ _ x.2 in
+      let u = then-ok (unused_at line 5 fs) _ _ y.2 in
       let h = u.2 in let z : ◌≡◌ {A = ℕ} 0 1 = cc in omega arith
   not-operands (Triple word) e =
-      let x = then_ok (cell_at line 3 fs) _ _ e in
-      let y = then_ok (cell_at line 4 fs) _ _ x.2 in
-      let u = then_ok (cell_at line 5 fs) _ _ y.2 in
+      let x = then-ok (cell_at line 3 fs) _ _ e in
+      let y = then-ok (cell_at line 4 fs) _ _ x.2 in
+      let u = then-ok (cell_at line 5 fs) _ _ y.2 in
       let h = u.2 in let z : ◌≡◌ {A = ℕ} 0 1 = cc in omega arith
   not-operands (Member word) e =
-      let x = then_ok (cell_at line 3 fs) _ _ e in
-      let y = then_ok (place_at line 4 fs) _ _ x.2 in
-      let u = then_ok (unused_at line 5 fs) _ _ y.2 in
+      let x = then-ok (cell_at line 3 fs) _ _ e in
+      let y = then-ok (place_at line 4 fs) _ _ x.2 in
+      let u = then-ok (unused_at line 5 fs) _ _ y.2 in
       let h = u.2 in let z : ◌≡◌ {A = ℕ} 0 1 = cc in omega arith
 
 by-letter : (dialect : Dialect) (line c : ℕ) (fs : List (List ℕ)) (b : Bounds) (letter : Letter) → letter_of c ≡ Some letter → length fs + 1 ≡ field_count letter → body_at dialect line fs letter ≡ Ok (declare b) → row_text b ≡ rejoined 44 ((c ∷ []) ∷ fs)
@@ -150,40 +150,40 @@ by-letter dialect line c fs b BaleLetter l n e = absurd (not-bale line fs b e)
 by-letter dialect line c fs b CloseLetter l n e = absurd (let z : ◌≡◌ {A = ℕ} 0 1 = cc in omega arith)
 by-letter dialect line c fs b GroupLetter l n e = group-written line c fs b n (grind (arith, nat_tests)) e
 by-letter dialect line c fs b NumberLetter l n e = range-written line c fs b n (grind (arith, nat_tests)) e
-by-letter dialect line c fs b StateLetter l n e = let x = then_ok (word_at dialect line (field 2 fs)) (operands_at line fs) _ e in absurd (not-operands line fs b x.0 x.2)
+by-letter dialect line c fs b StateLetter l n e = let x = then-ok (word_at dialect line (field 2 fs)) (operands_at line fs) _ e in absurd (not-operands line fs b x.0 x.2)
 by-letter dialect line c fs b SettleLetter l n e = absurd (not-settle line fs b e)
 
-from_fields : (dialect : Dialect) (line : ℕ) (fs : List (List ℕ)) (b : Bounds) → fields_at dialect line fs ≡ Ok (declare b) → row_text b ≡ rejoined 44 fs
-from_fields dialect line [] b e = absurd (let z : ◌≡◌ {A = ℕ} 0 1 = cc in omega arith)
-from_fields dialect line (f ∷ fs) b e =
-    let x = then_ok (letter_at dialect line f) (counted_at dialect line fs) _ e in
+from-fields : (dialect : Dialect) (line : ℕ) (fs : List (List ℕ)) (b : Bounds) → fields_at dialect line fs ≡ Ok (declare b) → row_text b ≡ rejoined 44 fs
+from-fields dialect line [] b e = absurd (let z : ◌≡◌ {A = ℕ} 0 1 = cc in omega arith)
+from-fields dialect line (f ∷ fs) b e =
+    let x = then-ok (letter_at dialect line f) (counted_at dialect line fs) _ e in
     let l = letter-ok dialect line f x.0 x.1 in
     let n = cond-ok (eqb (length fs + 1) (field_count x.0)) _ _ _ x.2 in
     by-letter dialect line l.0 fs b x.0 l.2 (eqb-true (length fs + 1) (field_count x.0) n.0) n.1 ∙ ap (λ t. rejoined 44 (t ∷ fs)) (sym l.1)
 
 written : (dialect : Dialect) (line : ℕ) (s : List ℕ) (b : Bounds) → line_at dialect line s ≡ Ok (declare b) → row_text b ≡ s
-written dialect line s b e = from_fields dialect line (fields_of s) b (cond-err (ltb 400 (length s)) _ _ _ e) ∙ rejoined-parts 44 s
+written dialect line s b e = from-fields dialect line (fields_of s) b (cond-err (ltb 400 (length s)) _ _ _ e) ∙ rejoined-parts 44 s
 
 -- the meaning of a row tells the row
-cell_same : (k l : CellNumber) → k.number ≡ l.number → k ≡ l
-cell_same k l e = λ i. record { number = e i; least = is_prop→PathP (λ j. 1 ≤ e j) (λ j. le_prop) k.least l.least i; most = is_prop→PathP (λ j. e j ≤ 99) (λ j. le_prop) k.most l.most i }
+cell-same : (k l : CellNumber) → k.number ≡ l.number → k ≡ l
+cell-same k l e = λ i. record { number = e i; least = is_prop→PathP (λ j. 1 ≤ e j) (λ j. le_prop) k.least l.least i; most = is_prop→PathP (λ j. e j ≤ 99) (λ j. le_prop) k.most l.most i }
 
-end_same : (k l : End) → k.value ≡ l.value → k ≡ l
-end_same k l e = λ i. record { value = e i; most = is_prop→PathP (λ j. e j ≤ 1000000) (λ j. le_prop) k.most l.most i }
+end-same : (k l : End) → k.value ≡ l.value → k ≡ l
+end-same k l e = λ i. record { value = e i; most = is_prop→PathP (λ j. e j ≤ 1000000) (λ j. le_prop) k.most l.most i }
 
 same : (k l : Row) → bounds k ≡ bounds l → k ≡ l
 same (Group c s p) (Group c' s' p') e =
     let ce : c.number ≡ c'.number = cc in
     let se : listed s ≡ listed s' = cc in
     let pe : listed p ≡ listed p' = cc in
-    λ i. Group (cell_same c c' ce i) (lists-round.same s s' se i) (lists-round.same p p' pe i)
+    λ i. Group (cell-same c c' ce i) (lists-round.same s s' se i) (lists-round.same p p' pe i)
 same (Group c s p) (Number c' l h) e = absurd (let z : ◌≡◌ {A = ℕ} 0 1 = cc in omega arith)
 same (Number c l h) (Group c' s p) e = absurd (let z : ◌≡◌ {A = ℕ} 0 1 = cc in omega arith)
 same (Number c l h) (Number c' l' h') e =
     let ce : c.number ≡ c'.number = cc in
     let le : l.value ≡ l'.value = cc in
     let he : h.value ≡ h'.value = cc in
-    λ i. Number (cell_same c c' ce i) (end_same l l' le i) (end_same h h' he i)
+    λ i. Number (cell-same c c' ce i) (end-same l l' le i) (end-same h h' he i)
 
 -- four fields of at most these lengths
 row-length : (letter m n k : ℕ) (a b d : List ℕ) → length a ≤ m → length b ≤ n → length d ≤ k → length (letter ∷ 44 ∷ (a ++ (44 ∷ (b ++ (44 ∷ d))))) ≤ 4 + m + n + k
@@ -196,4 +196,4 @@ fits (Number cell low high) a =
     omega (arith, row-length 78 2 7 7 (decimal cell.number) (decimal low.value) (decimal high.value) (length-decimal-le 2 cell.number (omega arith) (omega (arith, cell.most)) (omega (arith, cell.most))) (length-decimal-le 7 low.value (omega arith) (omega (arith, low.most)) (omega (arith, low.most))) (length-decimal-le 7 high.value (omega arith) (omega (arith, high.most)) (omega (arith, high.most))))
 
 pub rows-round : RowsRound
-rows-round = record { read_back = reads; written_back = written; same = same; fits = fits }
+rows-round = record { read-back = reads; written-back = written; same = same; fits = fits }

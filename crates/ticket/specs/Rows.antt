@@ -26,8 +26,8 @@ OnTicket (number cell low high) = Unit {0}
 
 -- a row written and read again is the same row; a row read and written again is the same text
 pub record RowsRound : Type 0 where
-  pub read_back : (dialect : Dialect) (line : ℕ) (row : Row) → knows_letter dialect (row_letter (bounds row)) ≡ true → length (row_text (bounds row)) ≤ 400 → line_at dialect line (row_text (bounds row)) ≡ Ok (declare (bounds row))
-  pub written_back : (dialect : Dialect) (line : ℕ) (s : List ℕ) (b : Bounds) → line_at dialect line s ≡ Ok (declare b) → row_text b ≡ s
+  pub read-back : (dialect : Dialect) (line : ℕ) (row : Row) → knows_letter dialect (row_letter (bounds row)) ≡ true → length (row_text (bounds row)) ≤ 400 → line_at dialect line (row_text (bounds row)) ≡ Ok (declare (bounds row))
+  pub written-back : (dialect : Dialect) (line : ℕ) (s : List ℕ) (b : Bounds) → line_at dialect line s ≡ Ok (declare b) → row_text b ≡ s
   -- two rows of the same meaning are the same row
   pub same : (k l : Row) → bounds k ≡ bounds l → k ≡ l
   -- a row of a ticket's own places is never too long for a line

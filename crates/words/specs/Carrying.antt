@@ -3,7 +3,7 @@ use Rattle.std.specs.Prelude.{◌≡◌, ℕ, ◌&&◌, T}
 use Rattle.std.proofs.Common.{sym, ap, subst}
 use Rattle.places.specs.Members.{has, Sub}
 use Rattle.places.specs.Tables.{◌⇒◌, rows}
-use Rattle.places.proofs.Tables.{table, and_left, and_right, and_both, follows, implied}
+use Rattle.places.proofs.Tables.{table, and-left, and-right, and-both, follows, implied}
 use Rattle.domain.specs.declared.bounds.BaleSet.{BaleSet}
 use Rattle.domain.specs.declared.bounds.Group.{Group}
 use Rattle.domain.specs.declared.bounds.GroupTell.{GroupTell}
@@ -25,30 +25,30 @@ record Inside (u t : Ends ℕ) : Type 0 where
 
 inside-at : (u t : Ends ℕ) → Inside u t → (k : ℕ) → T (inside_at (over (has k) u) (over (has k) t))
 inside-at u t h k =
-    and_both _ _ (and_both _ _ (and_both _ _ (and_both _ _ (and_both _ _
+    and-both _ _ (and-both _ _ (and-both _ _ (and-both _ _ (and-both _ _
     (implied _ _ (h.sa k)) (implied _ _ (h.pa k))) (implied _ _ (h.sb k))) (implied _ _ (h.pb k))) (implied _ _ (h.sc k))) (implied _ _ (h.pc k))
 
 module _ (u t : Ends ℕ) (h : (k : ℕ) → T (inside_at (over (has k) u) (over (has k) t))) where
   five : (k : ℕ) → T ((has k t.sa ⇒ has k u.sa) && (has k u.pa ⇒ has k t.pa) && (has k t.sb ⇒ has k u.sb) && (has k u.pb ⇒ has k t.pb) && (has k t.sc ⇒ has k u.sc))
-  five k = and_left _ _ (h k)
+  five k = and-left _ _ (h k)
 
   four : (k : ℕ) → T ((has k t.sa ⇒ has k u.sa) && (has k u.pa ⇒ has k t.pa) && (has k t.sb ⇒ has k u.sb) && (has k u.pb ⇒ has k t.pb))
-  four k = and_left _ _ (five k)
+  four k = and-left _ _ (five k)
 
   three : (k : ℕ) → T ((has k t.sa ⇒ has k u.sa) && (has k u.pa ⇒ has k t.pa) && (has k t.sb ⇒ has k u.sb))
-  three k = and_left _ _ (four k)
+  three k = and-left _ _ (four k)
 
   two : (k : ℕ) → T ((has k t.sa ⇒ has k u.sa) && (has k u.pa ⇒ has k t.pa))
-  two k = and_left _ _ (three k)
+  two k = and-left _ _ (three k)
 
   at-inside : Inside u t
   at-inside = record {
-    sa = λ k. follows _ _ (and_left _ _ (two k));
-    pa = λ k. follows _ _ (and_right _ _ (two k));
-    sb = λ k. follows _ _ (and_right _ _ (three k));
-    pb = λ k. follows _ _ (and_right _ _ (four k));
-    sc = λ k. follows _ _ (and_right _ _ (five k));
-    pc = λ k. follows _ _ (and_right _ _ (h k));
+    sa = λ k. follows _ _ (and-left _ _ (two k));
+    pa = λ k. follows _ _ (and-right _ _ (two k));
+    sb = λ k. follows _ _ (and-right _ _ (three k));
+    pb = λ k. follows _ _ (and-right _ _ (four k));
+    sc = λ k. follows _ _ (and-right _ _ (five k));
+    pc = λ k. follows _ _ (and-right _ _ (h k));
   }
 
 inside-trans : (s t u : Ends ℕ) → Inside s t → Inside t u → Inside s u
@@ -94,7 +94,7 @@ module _ (w : Word) (g : Good w) where
       subst (λ x. T (inside_at (just (member k a) (member k b) (member k c)) x)) (sym (over-told_sets w k t))
       (follows _ _ (table 3 (λ a b c. (inside_at (just a b c) (over (has k) t) && w.relation a b c) ⇒ inside_at (just a b c) (told_at w (over (has k) t)))
       (at (λ t. rows 3 (λ a b c. (inside_at (just a b c) t && w.relation a b c) ⇒ inside_at (just a b c) (told_at w t))) g.keeps (over (has k) t)) (member k a) (member k b) (member k c))
-      (and_both _ _ (inside-at (values a b c) t h k) (r k))))
+      (and-both _ _ (inside-at (values a b c) t h k) (r k))))
 
   exact : (a b c : BaleSet) → Inside (values a b c) (told_sets w (values a b c)) → Says w a b c
   exact a b c s k =
@@ -172,19 +172,19 @@ module _ (w : Word) (g : Good w) where
 
 -- ---- a relation in other words
 
-pub two_said : {X U J Y V K : Type 0} {allows : X → U → Type 0} {height : X → ℕ} {passes : J → U → Type 0} {allows' : Y → V → Type 0} {height' : Y → ℕ} {passes' : K → V → Type 0}
+pub two-said : {X U J Y V K : Type 0} {allows : X → U → Type 0} {height : X → ℕ} {passes : J → U → Type 0} {allows' : Y → V → Type 0} {height' : Y → ℕ} {passes' : K → V → Type 0}
     {f : X → Y → J × K} {holds says : U → V → Type 0} → TwoLaws allows height passes allows' height' passes' f says → ((a : U) (b : V) → holds a b → says a b) → ((a : U) (b : V) → says a b → holds a b) →
     TwoLaws allows height passes allows' height' passes' f holds
-two_said l to from = record {
+two-said l to from = record {
   monotone = l.monotone;
   keeps = λ x y a b p q h. l.keeps x y a b p q (to a b h);
   exact = λ x y a b p q hx hy h. from a b (l.exact x y a b p q hx hy h);
 }
 
-pub three_said : {X U J : Type 0} {allows : X → U → Type 0} {height : X → ℕ} {passes : J → U → Type 0}
+pub three-said : {X U J : Type 0} {allows : X → U → Type 0} {height : X → ℕ} {passes : J → U → Type 0}
     {f : X → X → X → J × J × J} {holds says : U → U → U → Type 0} → ThreeLaws allows height passes f says → ((a b c : U) → holds a b c → says a b c) → ((a b c : U) → says a b c → holds a b c) →
     ThreeLaws allows height passes f holds
-three_said l to from = record {
+three-said l to from = record {
   monotone = l.monotone;
   keeps = λ x y z a b c p q r h. l.keeps x y z a b c p q r (to a b c h);
   exact = λ x y z a b c p q r hx hy hz h. from a b c (l.exact x y z a b c p q r hx hy hz h);

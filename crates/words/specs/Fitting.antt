@@ -1,5 +1,5 @@
 -- A fit lasts: fields that name groups of a row stay free of fault.
-use Rattle.std.specs.Prelude.{◌≡◌, ℕ, zero, suc, ◌+◌, ◌<◌, true, false, ◌||◌, ltb, List, [], ◌∷◌, ◌++◌, length, ◌==◌, nat_lt, refl}
+use Rattle.std.specs.Prelude.{◌≡◌, ℕ, zero, suc, ◌+◌, ◌<◌, true, false, ◌||◌, List, [], ◌∷◌, ◌++◌, length, ◌==◌, nat_lt, refl}
 use Rattle.std.proofs.Common.{sym, ap, subst, ◌∙◌, arith, length-append, eqb-true, ltb-true, lt-ltb}
 use Rattle.domain.specs.declared.mixed.Mixed.TheVariants.{First, Second}
 use Rattle.domain.specs.Laws.{Within}
@@ -54,7 +54,7 @@ inside-group (p ∷ ps) (q ∷ qs) (suc i) a h = inside-group ps qs i a.1 h
 
 inside : (P Q : List Cell) → Inside CellAllows Q P → Lasts P Q
 inside P Q a = record {
-  declared = λ i e. ap (ltb i) (inside-long P Q a) ∙ e;
+  declared = λ i e. ap (nat_lt i) (inside-long P Q a) ∙ e;
   suited = λ i e h. inside-group P Q i a h;
 }
 

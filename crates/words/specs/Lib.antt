@@ -6,11 +6,12 @@ pub mod Tells
 pub mod Pairs
 pub mod Triples
 pub mod Members
-pub mod Lifting
+-- The proofs of their laws, which the words cite where they state them.
 pub mod CellsLemmas
-pub mod MemberLaws
 pub mod Fitting
-pub mod PairLaws
 pub mod Places
 pub mod Carrying
+pub mod Lifting
+pub mod PairLaws
 pub mod TripleLaws
+pub mod MemberLaws

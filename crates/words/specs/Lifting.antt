@@ -13,8 +13,8 @@ use Rattle.words.specs.Rows.{narrowed_one, HoldsOne, narrowed_two, HoldsTwo, nar
 use Rattle.words.specs.CellsLemmas.{cell-bounds, cell-heights, cell-tells, groups}
 
 module _ {tells : Group → GroupTell} {holds : BaleSet → Type 0} (laws : OneLaws GroupAllows group_height GroupPasses tells holds) (a : ℕ) where
-  pub narrowing_one : NarrowingLaws CellAllows (named (a ∷ [])) (narrowed_one tells a)
-  narrowing_one = one-narrowing cell-bounds cell-heights cell-tells groups laws a
+  pub narrowing-one : NarrowingLaws CellAllows (named (a ∷ [])) (narrowed_one tells a)
+  narrowing-one = one-narrowing cell-bounds cell-heights cell-tells groups laws a
 
   pub relation-one : RelationLaws CellAllows cell_height (named (a ∷ [])) (HoldsOne holds a) (narrowed_one tells a)
   relation-one = one-relation cell-bounds cell-heights cell-tells groups laws a

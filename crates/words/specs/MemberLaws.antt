@@ -5,7 +5,7 @@ use Rattle.std.proofs.Math.Dec.{eqb_refl}
 use Rattle.places.specs.Members.{has, holds, none, one, minus, Sub}
 use Rattle.places.proofs.Members.{has-none, minus-only, minus-each}
 use Rattle.places.proofs.Lowest.{has-one-place}
-use Rattle.places.proofs.Tables.{and_left, and_right, and_both}
+use Rattle.places.proofs.Tables.{and-left, and-right, and-both}
 use Rattle.domain.specs.Groups.{GroupAllows, group_height, GroupPasses}
 use Rattle.engine.specs.Arity.{OneLaws}
 use Rattle.words.specs.Members.{OnLists, bale_at, has_tells, HasHolds, lacks_tells, LacksHolds}
@@ -17,10 +17,10 @@ test-true true t = refl
 test-true false t = absurd t
 
 listed : (p : ℕ) → T (nat_le 1 p && nat_le p 64) → OnLists p
-listed p t = (leb→le 1 p (and_left (nat_le 1 p) (nat_le p 64) t), leb→le p 64 (and_right (nat_le 1 p) (nat_le p 64) t))
+listed p t = (leb→le 1 p (and-left (nat_le 1 p) (nat_le p 64) t), leb→le p 64 (and-right (nat_le 1 p) (nat_le p 64) t))
 
 bale-listed : (p : ℕ) → OnLists p → bale_at p ≡ one p
-bale-listed p o = ap (λ b. cond b (one p) none) (test-true (nat_le 1 p && nat_le p 64) (and_both (nat_le 1 p) (nat_le p 64) (le→leb 1 p o.0) (le→leb p 64 o.1)))
+bale-listed p o = ap (λ b. cond b (one p) none) (test-true (nat_le 1 p && nat_le p 64) (and-both (nat_le 1 p) (nat_le p 64) (le→leb 1 p o.0) (le→leb p 64 o.1)))
 
 -- ---- who is in the set of one place
 

@@ -5,7 +5,7 @@ ghost use Rattle.engine.specs.Telling.{named};
 ghost use Rattle.words.specs.Rows.{narrowed_one, HoldsOne};
 ghost use Rattle.words.specs.Fields.{group_field, place_field};
 ghost use Rattle.words.specs.Members.{bale_at, has_tells, HasHolds, lacks_tells, LacksHolds};
-ghost use Rattle.words.specs.Lifting.{narrowing_one, relation-one};
+ghost use Rattle.words.specs.Lifting.{narrowing-one, relation-one};
 ghost use Rattle.words.specs.MemberLaws.{has-laws, lacks-laws};
 ghost use Rattle.words.specs.Fitting.{fit-laws};
 
@@ -75,7 +75,7 @@ impl Propagator<Cell, ClosedList> for Has {
 
     ghost fields = { λ b w P. group_field 3 w.cell P ∷ (place_field 4 w.place b ∷ []) };
 
-    ghost narrowing = { λ b w. narrowing_one (has-laws w.place) w.cell };
+    ghost narrowing = { λ b w. narrowing-one (has-laws w.place) w.cell };
 
     ghost relation = { λ b w. relation-one (has-laws w.place) w.cell };
 
@@ -119,7 +119,7 @@ impl Propagator<Cell, ClosedList> for Lacks {
 
     ghost fields = { λ b w P. group_field 3 w.cell P ∷ (place_field 4 w.place b ∷ []) };
 
-    ghost narrowing = { λ b w. narrowing_one (lacks-laws w.place) w.cell };
+    ghost narrowing = { λ b w. narrowing-one (lacks-laws w.place) w.cell };
 
     ghost relation = { λ b w. relation-one (lacks-laws w.place) w.cell };
 

@@ -10,7 +10,7 @@ pub returns : goal.returns
 returns c = record {
   same = same-places;
   in-none = has-none;
-  in_one = has-one-place;
+  in-one = has-one-place;
   in-up-to = holds-up-to;
   in-union = has-or;
   in-intersection = has-and;

@@ -7,7 +7,7 @@ use Rattle.engine.specs.Rows.{item}
 use Rattle.engine.proofs.Rows.{item-here}
 use Rattle.solver.specs.Waking.{set_at, Sharers}
 use Rattle.solver.specs.Fixpoint.{OfRules, OthersRest}
-use Rattle.solver.proofs.Resting.{Holding, total, inside-falls, holding-start, holding-end, narrowed-holds, refuted, others_same, others-woken, fewer, fewer-rules, more-rules, turns-fall}
+use Rattle.solver.proofs.Resting.{Holding, total, inside-falls, holding-start, holding-end, narrowed-holds, refuted, others-same, others-woken, fewer, fewer-rules, more-rules, turns-fall}
 use Rattle.solver.proofs.fixpoint.rest_waiting.Goals as goal
 
 pub loop-place-init : goal.loop-place-init
@@ -43,7 +43,7 @@ loop-place-preserved-in-Same g c =
       λ others. let t = c.loop-place.invariant.1 others in (
         subst (Holding kind rule book rules c.args.row.now) (sym same) t.0,
         subst (λ m. OthersRest kind rule book rules m c.narrow.new.row) (sym e)
-            (subst (OthersRest kind rule book rules (minus w (lowest w))) (sym same) (others_same kind rule book law rules row w k r first here t.1 c.in-Same.ensures.0)),
+            (subst (OthersRest kind rule book rules (minus w (lowest w))) (sym same) (others-same kind rule book law rules row w k r first here t.1 c.in-Same.ensures.0)),
       ),
     )
 

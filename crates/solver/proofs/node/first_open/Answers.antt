@@ -3,7 +3,7 @@ use Rattle.std.proofs.Common.{◌≡◌, ◌<◌, Some, sym, refl, arith, eqb-tr
 use borrow.Author.Tests.{eqb-false}
 use Rattle.engine.specs.Rows.{item}
 use Rattle.engine.proofs.Rows.{item-here}
-use Rattle.solver.proofs.Opening.{all_of, first_of, single_more}
+use Rattle.solver.proofs.Opening.{all-of, first_of, single-more}
 use Rattle.solver.proofs.node.first_open.Goals as goal
 
 pub returns-then-not-is_single : goal.returns-then-not-is_single
@@ -19,10 +19,10 @@ loop-i-preserved g c =
     let x = c.index-row-i.result in
     let row = c.args.row.now in
     let here : item row c.loop-i.i ≡ Some x = item-here row c.loop-i.i x (omega arith) c.index-row-i.is in
-    single_more g.C.Domain.height row c.loop-i.i x here (eqb-true (g.C.Domain.height x) 0 (sym c.if-not-is_single.ensures)) c.loop-i.invariant
+    single-more g.C.Domain.height row c.loop-i.i x here (eqb-true (g.C.Domain.height x) 0 (sym c.if-not-is_single.ensures)) c.loop-i.invariant
 
 pub returns : goal.returns
 returns g c = record {
-  all = λ e. all_of g.C.Domain.height c.args.row.now (λ j p h f. c.loop-i.invariant j p (omega arith) f);
+  all = λ e. all-of g.C.Domain.height c.args.row.now (λ j p h f. c.loop-i.invariant j p (omega arith) f);
   here = λ n. absurd (n refl);
 }

@@ -9,7 +9,7 @@ use Rattle.meaning.specs.Search.{change, all-single, no-cut-left, no-row-left, t
 use Rattle.solver.specs.Fixpoint.{OfRules, OthersRest}
 use Rattle.solver.proofs.Opening.{open-within}
 use Rattle.solver.proofs.Sharing.{namer-within}
-use Rattle.solver.proofs.Rows.{room-two, room-one, above-first, above-back, front-stays, above-long, lent-long, lent_same, room-part}
+use Rattle.solver.proofs.Rows.{room-two, room-one, above-first, above-back, front-stays, above-long, lent-long, lent-same, room-part}
 use Rattle.solver.proofs.Steps.{cut-waits, of-half, step-first, step-second}
 use Rattle.solver.proofs.search.+seek.Goals as goal
 
@@ -104,7 +104,7 @@ seek-two-requires g t c κs within =
     let named : OfRules c.args.rules.now c.after_cell-woken.result.bits =
     namer-within g.R.Propagator.names c.args.rules.now c.in-Cut.i c.after_cell-woken.result.bits c.after_cell-woken.ensures in
     let two = room-two n c.args.at.depth c.args.limits.rows _ lt c.requires.room in
-    let same : length (put_mid n (length s - n) s ys) ≡ length s = lent_same n s ys (omega arith) (omega arith) in
+    let same : length (put_mid n (length s - n) s ys) ≡ length s = lent-same n s ys (omega arith) (omega arith) in
     let room = room-part n c.args.at.depth c.second.result.depth c.args.limits.rows c.put_half-in-Cut.new.stack lt c.second.ensures.depth (let r = c.requires.room in omega arith) in
     let cuts = c.second.ensures.cuts in
     let few = c.seek-one.ensures.few in

@@ -6,7 +6,7 @@ use Rattle.solver.specs.Fixpoint.{OfRules}
 use Rattle.solver.specs.Endings.{ending}
 use Rattle.solver.proofs.Resting.{no-rule}
 use Rattle.solver.proofs.Rows.{whole-rows}
-use Rattle.solver.proofs.Steps.{of-half, all_rest, stays, at_rest}
+use Rattle.solver.proofs.Steps.{of-half, all-rest, stays, at-rest}
 use Rattle.solver.proofs.search.search_from.Goals as goal
 
 pub seek-requires : goal.seek-requires
@@ -35,10 +35,10 @@ returns g c =
     let Found : ℕ → Type 0 = λ rows. Searched kind halves rule book rules c.args.cut_limit rows cells (ending c.seek.result.end (take (length cells) c.seek.new.stack)) c.seek.result.cuts in
     record {
       room = c.requires.room;
-      searched = λ rests. subst Found c.rows_above.ensures (at_rest kind halves rule book rules c.args.cut_limit c.rows_above.result bounds rests
-          (of-half kind halves rule book rules c.args.cut_limit c.rows_above.result set 0 _ 0 _ _ cells _ _ c.start.ensures.cuts c.start.ensures.depth laid (all_rest kind rule book rules set cells rests) c.seek.ensures.ended));
+      searched = λ rests. subst Found c.rows_above.ensures (at-rest kind halves rule book rules c.args.cut_limit c.rows_above.result bounds rests
+          (of-half kind halves rule book rules c.args.cut_limit c.rows_above.result set 0 _ 0 _ _ cells _ _ c.start.ensures.cuts c.start.ensures.depth laid (all-rest kind rule book rules set cells rests) c.seek.ensures.ended));
       kept = λ rests e.
           let rests' : Rests kind rule book rules (take (length cells) c.lay.new.stack) = subst (Rests kind rule book rules) (sym laid) rests in
-          stays kind rule book rules bounds _ _ rests' (c.seek.ensures.kept (all_rest kind rule book rules set _ rests') e) ∙ laid;
+          stays kind rule book rules bounds _ _ rests' (c.seek.ensures.kept (all-rest kind rule book rules set _ rests') e) ∙ laid;
       empty = λ e. absurd (let p = c.requires.some in omega arith);
     }

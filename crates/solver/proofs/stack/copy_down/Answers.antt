@@ -1,7 +1,7 @@
 -- Each turn copies one cell.
 use Rattle.std.proofs.Common.{◌+◌, ◌<◌, ◌≢◌, length, get_or, ap, ◌∙◌, arith, below_more}
 use Rattle.std.proofs.lemmas.List.{get_or-set_same, get_or-set_other, get_or_read}
-use Rattle.solver.proofs.Rows.{part_same}
+use Rattle.solver.proofs.Rows.{part-same}
 use Rattle.solver.proofs.stack.copy_down.Goals as goal
 
 pub loop-j-preserved : goal.loop-j-preserved
@@ -16,4 +16,4 @@ loop-j-preserved g c =
     )
 
 pub returns : goal.returns
-returns g c = part_same c.args.n 0 c.args.n c.loop-j.stack c.args.stack.now (omega arith) (omega arith) (λ k h d. ap (λ m. get_or c.loop-j.stack m d) (omega arith) ∙ c.loop-j.invariant.0 k (omega arith) d)
+returns g c = part-same c.args.n 0 c.args.n c.loop-j.stack c.args.stack.now (omega arith) (omega arith) (λ k h d. ap (λ m. get_or c.loop-j.stack m d) (omega arith) ∙ c.loop-j.invariant.0 k (omega arith) d)

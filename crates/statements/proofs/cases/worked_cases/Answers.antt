@@ -18,8 +18,8 @@ use Rattle.statements.proofs.cases.worked_cases.Goals as goal
 same-groups : (p q : Group) → p.sure.bits ≡ q.sure.bits → p.possible.bits ≡ q.possible.bits → ◌≡◌ {A = Cell} (First p) (First q)
 same-groups p q e f = ap First (group-eq p q e f)
 
-same_numbers : (p q : Number) → p.low ≡ q.low → p.high ≡ q.high → ◌≡◌ {A = Cell} (Second p) (Second q)
-same_numbers p q e f = ap Second (number-eq p q e f)
+same-numbers : (p q : Number) → p.low ≡ q.low → p.high ≡ q.high → ◌≡◌ {A = Cell} (Second p) (Second q)
+same-numbers p q e f = ap Second (number-eq p q e f)
 
 three : {p p' q q' r r' : Cell} → p ≡ p' → q ≡ q' → r ≡ r' → Some (p ∷ (q ∷ (r ∷ []))) ≡ Some (p' ∷ (q' ∷ (r' ∷ [])))
 three e f g = λ i. Some (e i ∷ (f i ∷ (g i ∷ [])))
@@ -28,10 +28,10 @@ pub returns : goal.returns
 unfolding group_of number_of ones
 returns c = record {
   within = λ b. ap₂ (λ p q. Some (p ∷ (q ∷ []))) (same-groups _ _ refl refl) (same-groups _ _ refl refl);
-  counted = λ b. ap₂ (λ p q. Some (p ∷ (q ∷ []))) (same-groups _ _ refl refl) (same_numbers _ _ refl refl);
+  counted = λ b. ap₂ (λ p q. Some (p ∷ (q ∷ []))) (same-groups _ _ refl refl) (same-numbers _ _ refl refl);
   weighed = λ b e. subst (λ ws. narrowed_scales (weigh_tells ws) 0 1 (group (one 2) (up_to 2) refl ∷ (number 0 100 (lit≤ tt) (lit≤ tt) ∷ [])) ≡ Some (group (one 2) (up_to 2) refl ∷ (number 3 7 (lit≤ tt) (lit≤ tt) ∷ []))) (sym e)
-      (ap₂ (λ p q. Some (p ∷ (q ∷ []))) (same-groups _ _ refl refl) (same_numbers _ _ refl refl));
+      (ap₂ (λ p q. Some (p ∷ (q ∷ []))) (same-groups _ _ refl refl) (same-numbers _ _ refl refl));
   united = λ b. three (same-groups _ _ refl refl) (same-groups _ _ refl refl) (same-groups _ _ refl refl);
   apart-from-itself = λ b. ap (λ p. Some (p ∷ [])) (same-groups _ _ refl refl);
-  summed = λ b. three (same_numbers _ _ refl refl) (same_numbers _ _ refl refl) (same_numbers _ _ refl refl);
+  summed = λ b. three (same-numbers _ _ refl refl) (same-numbers _ _ refl refl) (same-numbers _ _ refl refl);
 }

@@ -1,5 +1,5 @@
 use Rattle.std.proofs.Common.{arith}
-use Rattle.text.proofs.Cuts.{free-at, whole-at, cut_at, parts_whole, lacks-free}
+use Rattle.text.proofs.Cuts.{free-at, whole-at, cut-at, parts-whole, lacks-free}
 use Rattle.text.proofs.parts.position.Goals as goal
 
 pub returns-then-byte-separator : goal.returns-then-byte-separator
@@ -9,8 +9,8 @@ returns-then-byte-separator c =
       inside = omega arith;
       plain = lacks-free _ _ (free-at c.args.separator at c.loop-i.i (omega arith) c.loop-i.invariant);
       whole = whole-at c.args.separator at c.loop-i.i (omega arith) c.loop-i.invariant c.if-byte-separator.true;
-      parts = cut_at c.args.separator at c.loop-i.i (omega arith) c.loop-i.invariant c.if-byte-separator.true;
+      parts = cut-at c.args.separator at c.loop-i.i (omega arith) c.loop-i.invariant c.if-byte-separator.true;
     }
 
 pub returns : goal.returns
-returns c = record { plain = lacks-free _ _ (λ k h. c.loop-i.invariant k (omega arith)); parts = parts_whole c.args.separator c.args.text.now (λ k h. c.loop-i.invariant k (omega arith)) }
+returns c = record { plain = lacks-free _ _ (λ k h. c.loop-i.invariant k (omega arith)); parts = parts-whole c.args.separator c.args.text.now (λ k h. c.loop-i.invariant k (omega arith)) }

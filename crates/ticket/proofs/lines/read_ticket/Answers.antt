@@ -6,7 +6,7 @@ use Rattle.ticket.specs.Rounds.{RoundTrips}
 use Rattle.text.proofs.Digits.{numbers-round}
 use Rattle.text.proofs.Lists.{lists-round}
 use Rattle.ticket.proofs.RowsBack.{rows-round}
-use Rattle.ticket.proofs.LineEnds.{splits, readings-more, told_is}
+use Rattle.ticket.proofs.LineEnds.{splits, readings-more, told-is}
 use Rattle.ticket.proofs.lines.read_ticket.Goals as goal
 
 round-trips : RoundTrips
@@ -23,7 +23,7 @@ returns-in_err-push c =
 pub lines-preserved : goal.lines-preserved
 lines-preserved c =
     let t = c.take_line.ensures c.lines-test.true in (
-      readings-more c.args.dialect c.lines.line c.take_line.result.0.now c.take_line.result.1.now c.lines.rest.now _ (vec_items c.lines.readings) (vec_items c.push.new.self) c.read_line.result c.in_ok-push.ensures.items (told_is c.read_line.result _ c.read_line.ensures) t.0 c.lines.invariant.0,
+      readings-more c.args.dialect c.lines.line c.take_line.result.0.now c.take_line.result.1.now c.lines.rest.now _ (vec_items c.lines.readings) (vec_items c.push.new.self) c.read_line.result c.in_ok-push.ensures.items (told-is c.read_line.result _ c.read_line.ensures) t.0 c.lines.invariant.0,
       omega (arith, t.1, c.lines.invariant.1),
       omega (arith, c.in_ok-push.ensures.len, c.lines.invariant.2),
     )

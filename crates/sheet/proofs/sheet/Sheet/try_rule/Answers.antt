@@ -3,7 +3,7 @@ use Rattle.std.proofs.Common.{◌≡◌, true, false, [], ◌∷◌, ◌++◌, l
 use Rattle.std.proofs.lemmas.List.{length-take-le}
 use Rattle.meaning.specs.Resting.{Widest}
 use Rattle.rules.specs.Listed.{listed, but_newest}
-use Rattle.sheet.proofs.Trials.{tried, pushed, all_but_last, restored}
+use Rattle.sheet.proofs.Trials.{tried, pushed, all-but-last, restored}
 use Rattle.sheet.proofs.sheet.Sheet.try_rule.Goals as goal
 
 pub returns-then-rest_first : goal.returns-then-rest_first
@@ -39,7 +39,7 @@ returns-else-rest_first g c =
     let saved : vec_items c.copy_from_slice.new.self ≡ take n spare = search rules in (
       c.new.ensures,
       tried g.C.Domain g.R.Propagator self.book accepted r cells (listed c.push.new.self) same n long c.lay.new.row (drop (length cells) spare) rested laid false c.if-rest_first.ensures.rested,
-      c.give_up.ensures.told ∙ ap (λ rs. record { book = self.book; declared = vec_items self.declared; accepted = rs }) (ap but_newest same ∙ all_but_last accepted r),
+      c.give_up.ensures.told ∙ ap (λ rs. record { book = self.book; declared = vec_items self.declared; accepted = rs }) (ap but_newest same ∙ all-but-last accepted r),
       c.give_up.ensures.bounds,
       c.give_up.ensures.spare ∙ ap (λ xs. xs ++ drop (length xs) rested) saved ∙ ap (λ k. take n spare ++ drop k rested) (length-take-le n spare (omega arith))
           ∙ restored spare cells rested n long (c.rest_first.ensures.others ∙ ap (drop n) (laid ∙ ap (λ k. cells ++ drop k spare) long)),

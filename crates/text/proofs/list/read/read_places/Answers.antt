@@ -6,7 +6,7 @@ use Rattle.text.specs.Parts.{parts_of}
 use Rattle.text.specs.Lists.{rising}
 use Rattle.text.specs.Numbers.{number_of, within}
 use Rattle.text.proofs.Members.{bit-more}
-use Rattle.text.proofs.Rising.{place-first, place-more, place_end}
+use Rattle.text.proofs.Rising.{place-first, place-more, place-end}
 use Rattle.text.proofs.list.read.read_places.Goals as goal
 
 pub parts-init : goal.parts-init
@@ -33,4 +33,4 @@ returns-in-None c =
     let h = bit-more c.parts.bits c.parts.last c.number-number.result (omega arith) (omega arith) (omega arith) in
     let n : within 1 99 (number_of c.cut.result.0.now) ≡ Some c.number-number.result = sym c.in-Some.ensures ∙ ap Some (sym c.number-number.ensures) in
     let e = rw c.in-None.is at c.cut.ensures.parts in
-    ap (λ o. ok_or o (fault_of BadList c.args.line c.args.field)) (place_end (parts_of 43 c.parts.rest.now) c.cut.result.0.now c.parts.bits c.parts.last c.number-number.result _ _ c.parts.invariant.0 e n (omega arith) (omega arith) h.0)
+    ap (λ o. ok_or o (fault_of BadList c.args.line c.args.field)) (place-end (parts_of 43 c.parts.rest.now) c.cut.result.0.now c.parts.bits c.parts.last c.number-number.result _ _ c.parts.invariant.0 e n (omega arith) (omega arith) h.0)

@@ -1,5 +1,5 @@
 use Rattle.std.proofs.Common.{is_ok, ap, arith}
-use Rattle.text.proofs.Shown.{writing-none, writing-take, writing_pass, written-some, written_none}
+use Rattle.text.proofs.Shown.{writing-none, writing-take, writing-pass, written-some, written-none}
 use Rattle.text.proofs.list.show.PlaceListDisplay.fmt.Goals as goal
 use Rattle.text.proofs.list.show.PlaceListDisplay.fmt.Goals.{then-rest-eq1+in_ok-write_place, else-rest-eq1}
 
@@ -10,11 +10,11 @@ pub loop-place-preserved : goal.loop-place-preserved
 loop-place-preserved g c =
     elim c.if-rest-eq1.branch [
       | then-rest-eq1+in_ok-write_place w ↦ writing-take g.W.Write.write_str_gives _ _ _ _ _ _ c.loop-place.invariant (omega arith) w.if-rest-eq1.true w.write_place.result w.write_place.new.f (ap is_ok w.in_ok-write_place.was) w.write_place.ensures _ _ w.first-is w.f-is
-      | else-rest-eq1 w ↦ writing_pass g.W.Write.write_str_gives _ _ _ _ _ _ c.loop-place.invariant (omega arith) w.if-rest-eq1.false _ _ w.first-is w.f-is
+      | else-rest-eq1 w ↦ writing-pass g.W.Write.write_str_gives _ _ _ _ _ _ c.loop-place.invariant (omega arith) w.if-rest-eq1.false _ _ w.first-is w.f-is
     ]
 
 pub returns-then-first-clause-writes : goal.returns-then-first-clause-writes
-returns-then-first-clause-writes g c plain ok = written_none g.W.Write.write_str_gives _ _ _ _ _ _ c.loop-place.invariant (omega arith) c.if-first.true _ _ ok c.write.ensures.writes plain
+returns-then-first-clause-writes g c plain ok = written-none g.W.Write.write_str_gives _ _ _ _ _ _ c.loop-place.invariant (omega arith) c.if-first.true _ _ ok c.write.ensures.writes plain
 
 pub returns-else-first-clause-writes : goal.returns-else-first-clause-writes
 returns-else-first-clause-writes g c plain ok = written-some g.W.Write.write_str_gives _ _ _ _ _ _ c.loop-place.invariant (omega arith) c.if-first.false plain
