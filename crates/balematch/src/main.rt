@@ -1,7 +1,7 @@
 //! balematch: reads a ticket from standard input and writes its listing.
 #![tactic(auto)]
 
-use anyhow::anyhow;
+use anyhow::bail;
 use std::io::{Read, Write};
 
 /// One byte more than a ticket may have tells that it is too large.
@@ -10,10 +10,11 @@ const ENOUGH: u64 = 65537;
 fn run(rt: &HostRuntime) -> anyhow::Result<()> {
     let mut ticket = Vec::new(rt.alloc());
     let _ = rt.stdin().take(ENOUGH).read_to_end(&mut ticket)?;
-    match matching::list_ticket(rt.alloc(), ticket.as_slice()) {
-        Ok(listing) => rt.stdout().write_all(listing.as_bytes())?,
-        Err(_) => return Err(anyhow!("out of memory")),
-    }
+    // these lines stand in acceptance too: a function that both call is no plainer
+    let Ok(listing) = matching::list_ticket(rt.alloc(), ticket.as_slice()) else {
+        bail!("out of memory");
+    };
+    rt.stdout().write_all(listing.as_bytes())?;
     Ok(())
 }
 

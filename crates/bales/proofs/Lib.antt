@@ -1,3 +1,3 @@
 -- Lemmas, by subject.
-mod Counts
+pub mod Numbers
 mod Tables

@@ -3,7 +3,7 @@ use Rattle.std.specs.Prelude.{ℕ, ◌-◌, List, ◌++◌, map, length, replica
 use Rattle.bales.specs.declared.list.Bale.{Bale}
 
 abbrev pub weights : List Bale → List ℕ
-weights bs = map (λ b. b.weight.pounds) bs
+weights bs = map (λ b. b.weight.number) bs
 
 -- with 0 for each place past the last bale
 abbrev pub table_of : List ℕ → List ℕ

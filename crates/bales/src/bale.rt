@@ -1,78 +1,58 @@
 //! A bale: its place on the ticket and its weight, each with its range in its type.
 
-ghost use Rattle.std.specs.Prelude.{◌≡◌, ◌≤◌};
+ghost use Rattle.std.specs.Prelude.{◌≡◌};
 ghost use Rattle.std.proofs.Common.{lit≤};
 
-use super::ranged::Ranged;
+use super::ranged::{Range, Ranged};
 
-/// A place as tickets write it, 1 to 99.
-#[derive(Clone, Copy, PartialEq, Eq, Debug)]
-pub struct Place {
-    number: u8,
-    ghost least: { 1 ≤ number },
-    ghost most: { number ≤ 99 },
-}
+/// Places as tickets write them, 1 to 99.
+#[derive(Clone, Copy)]
+pub struct Places;
 
-/// A bale's weight in pounds, 1 to 1,000.
-#[derive(Clone, Copy, PartialEq, Eq, Debug)]
-pub struct Weight {
-    pounds: u16,
-    ghost least: { 1 ≤ pounds },
-    ghost most: { pounds ≤ 1000 },
-}
+/// Weights of bales in pounds, 1 to 1,000.
+#[derive(Clone, Copy)]
+pub struct Weights;
 
-impl Ranged for Place {
-    ghost low = { 1 };
+impl Range for Places {
+    const LOW: u32 = 1;
 
-    ghost high = { 99 };
+    const HIGH: u32 = 99;
 
-    ghost figure = { λ p. p.number };
+    ghost LOW = { 1 };
+
+    ghost HIGH = { 99 };
 
     ghost small = { lit≤ tt };
-
-    fn from_number(number: u32) -> Option<Place> {
-        if 1 <= number && number <= 99 {
-            Some(Place {
-                number: number as u8,
-            })
-        } else {
-            None
-        }
-    }
 }
 
-impl Ranged for Weight {
-    ghost low = { 1 };
+impl Range for Weights {
+    const LOW: u32 = 1;
 
-    ghost high = { 1000 };
+    const HIGH: u32 = 1000;
 
-    ghost figure = { λ w. w.pounds };
+    ghost LOW = { 1 };
+
+    ghost HIGH = { 1000 };
 
     ghost small = { lit≤ tt };
-
-    fn from_number(number: u32) -> Option<Weight> {
-        if 1 <= number && number <= 1000 {
-            Some(Weight {
-                pounds: number as u16,
-            })
-        } else {
-            None
-        }
-    }
 }
+
+pub type Place = Ranged<Places>;
+
+pub type Weight = Ranged<Weights>;
 
 impl Place {
     pub fn number(self) -> u8
         ensures { result ≡ self.number }
     {
-        self.number
+        self.get() as u8
     }
 }
 
 impl Weight {
     pub fn pounds(self) -> u16
-        ensures { result ≡ self.pounds }
+        ensures { result ≡ self.number }
     {
-        self.pounds
+        self.get() as u16
     }
 }

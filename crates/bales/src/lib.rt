@@ -5,6 +5,6 @@ pub mod bale;
 pub mod list;
 pub mod ranged;
 
-pub use bale::{Place, Weight};
+pub use bale::{Place, Places, Weight, Weights};
 pub use list::{Bale, ClosedList, OpenList};
-pub use ranged::Ranged;
+pub use ranged::{Range, Ranged};

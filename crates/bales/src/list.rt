@@ -23,7 +23,8 @@ pub struct OpenList {
     ghost few: { vec_len bales ≤ 64 },
 }
 
-/// A bale list that is complete: no bale is taken any more. Its weights are kept in a table besides.
+/// A bale list that is complete: no bale is taken any more. Its weights are kept in a table besides, in fixed memory:
+/// a set is weighed from it without a look at a bale.
 #[derive(Drop)]
 pub struct ClosedList {
     bales: Vec<Bale>,

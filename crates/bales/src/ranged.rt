@@ -1,22 +1,71 @@
 //! Numbers whose range is part of their type.
 
-ghost use Rattle.std.specs.Prelude.{ℕ, ◌≤◌};
+ghost use Rattle.std.specs.Prelude.{◌≡◌, ℕ, ◌≤◌, ⊤, Some, decimal};
 ghost use Rattle.bales.specs.Ranges.{InRange};
 
-/// A type of numbers from `low` to `high`; no number of a ticket is above 1,000,000.
-pub trait Ranged: Copy {
-    ghost low: { ℕ };
+use std::alloc::AllocError;
+use std::fmt;
+use std::marker::PhantomData;
 
-    ghost high: { ℕ };
+/// What a number counts, and from where to where it may go; no number of a ticket is above 1,000,000.
+pub trait Range: Copy {
+    const LOW: u32;
 
-    /// The number that a value stands for.
-    ghost figure: { Self → ℕ };
+    const HIGH: u32;
 
-    /// The value of a number, or nothing where the number is out of range.
-    fn from_number(number: u32) -> Option<Self>
-    where
-        Self: Sized,
-        ensures { InRange low high figure number result };
+    ghost LOW: { ℕ };
 
-    ghost small: { high ≤ 1000000 };
+    ghost HIGH: { ℕ };
+
+    ghost small: { HIGH ≤ 1000000 };
+}
+
+/// A number of a range.
+#[derive_where(Copy, PartialEq, Eq, Debug)]
+pub struct Ranged<R: Range> {
+    number: u32,
+    of: PhantomData<R>,
+    ghost least: { R.LOW ≤ number },
+    ghost most: { number ≤ R.HIGH },
+}
+
+// By hand: a derive of `Clone` is refused beside ghost fields that cite a bound.
+impl<R: Range> Clone for Ranged<R> {
+    ghost is_clone = { λ x copy. copy ≡ x };
+
+    ghost is_infallible = { λ _. ⊤ };
+
+    fn clone(&self) -> Result<Ranged<R>, AllocError> {
+        Ok(*self)
+    }
+}
+
+impl<R: Range> Ranged<R> {
+    /// The value of a number, or nothing where the number is out of range. No `TryFrom`: what is refused, and where, the caller says.
+    pub fn from_number(number: u32) -> Option<Ranged<R>>
+        ensures { InRange R.LOW R.HIGH (λ x. x.number) number result }
+    {
+        if R::LOW <= number && number <= R::HIGH {
+            Some(Ranged {
+                number,
+                of: PhantomData,
+            })
+        } else {
+            None
+        }
+    }
+
+    pub fn get(self) -> u32
+        ensures { result ≡ self.number }
+    {
+        self.number
+    }
+}
+
+impl<R: Range> fmt::Display for Ranged<R> {
+    ghost output = { λ x. Some (decimal x.number) };
+
+    fn fmt<W: fmt::Write>(&self, f: &mut fmt::Formatter<W>) -> fmt::Result {
+        write!(f, "{}", self.number)
+    }
 }

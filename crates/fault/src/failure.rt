@@ -14,6 +14,7 @@ pub enum Failure {
     NoMemory,
 }
 
+// Three alike: one over a trait of these errors would want an impl of the trait for each, which is no plainer.
 impl From<AllocError> for Failure {
     ghost from_gives = { λ _ r. r ≡ NoMemory };
 

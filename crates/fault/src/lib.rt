@@ -18,26 +18,26 @@ pub enum Layer {
     Sheet,
 }
 
-/// Why a line or a call is refused, in the order of the published numbers 1 to 17.
+/// Why a line or a call is refused, each with its published number.
 #[derive(Clone, Copy, PartialEq, Eq, Debug)]
 pub enum Refusal {
-    LineTooLong,
-    UnknownLetter,
-    FieldCount,
-    BadNumber,
-    BadList,
-    UnknownWord,
-    WrongPart,
-    NotNext,
-    Full,
-    NoBales,
-    NotOnTicket,
-    Crossed,
-    NotDeclared,
-    WrongKind,
-    Contradiction,
-    ShortMemory,
-    TicketTooLong,
+    LineTooLong = 1,
+    UnknownLetter = 2,
+    FieldCount = 3,
+    BadNumber = 4,
+    BadList = 5,
+    UnknownWord = 6,
+    WrongPart = 7,
+    NotNext = 8,
+    Full = 9,
+    NoBales = 10,
+    NotOnTicket = 11,
+    Crossed = 12,
+    NotDeclared = 13,
+    WrongKind = 14,
+    Contradiction = 15,
+    ShortMemory = 16,
+    TicketTooLong = 17,
 }
 
 /// A refusal with its place. It is complete where it is made, and passes upwards unchanged.
@@ -51,30 +51,19 @@ pub struct Fault {
     pub layer: Layer,
 }
 
+/// Where in a ticket a refusal is found: a line, and a field of it.
+#[derive(Clone, Copy)]
+pub struct Spot {
+    pub line: u32,
+    pub field: u8,
+}
+
 impl Refusal {
     /// The published number.
     pub fn number(self) -> u8
         ensures { result ≡ number_of self }
     {
-        match self {
-            Refusal::LineTooLong => 1,
-            Refusal::UnknownLetter => 2,
-            Refusal::FieldCount => 3,
-            Refusal::BadNumber => 4,
-            Refusal::BadList => 5,
-            Refusal::UnknownWord => 6,
-            Refusal::WrongPart => 7,
-            Refusal::NotNext => 8,
-            Refusal::Full => 9,
-            Refusal::NoBales => 10,
-            Refusal::NotOnTicket => 11,
-            Refusal::Crossed => 12,
-            Refusal::NotDeclared => 13,
-            Refusal::WrongKind => 14,
-            Refusal::Contradiction => 15,
-            Refusal::ShortMemory => 16,
-            Refusal::TicketTooLong => 17,
-        }
+        self as u8
     }
 
     /// The layer that gives this refusal.
@@ -96,17 +85,17 @@ impl Refusal {
     pub fn names_field(self) -> bool
         ensures { result ≡ names_field self }
     {
-        match self {
+        matches!(
+            self,
             Refusal::UnknownLetter
-            | Refusal::BadNumber
-            | Refusal::BadList
-            | Refusal::UnknownWord
-            | Refusal::NotNext
-            | Refusal::NotOnTicket
-            | Refusal::NotDeclared
-            | Refusal::WrongKind => true,
-            _ => false,
-        }
+                | Refusal::BadNumber
+                | Refusal::BadList
+                | Refusal::UnknownWord
+                | Refusal::NotNext
+                | Refusal::NotOnTicket
+                | Refusal::NotDeclared
+                | Refusal::WrongKind
+        )
     }
 }
 
@@ -124,15 +113,24 @@ impl Fault {
     }
 }
 
+impl Spot {
+    /// The refusal at this spot.
+    pub fn refuse(self, refusal: Refusal) -> Fault
+        ensures { result ≡ fault_of refusal self.line self.field }
+    {
+        Fault::new(refusal, self.line, self.field)
+    }
+}
+
 impl fmt::Display for Layer {
     ghost output = { λ x. Some (layer_text x) };
 
     fn fmt<W: fmt::Write>(&self, f: &mut fmt::Formatter<W>) -> fmt::Result {
-        match self {
-            Layer::Text => write!(f, "text"),
-            Layer::Line => write!(f, "line"),
-            Layer::Sheet => write!(f, "sheet"),
-        }
+        f.write_str(match self {
+            Layer::Text => "text",
+            Layer::Line => "line",
+            Layer::Sheet => "sheet",
+        })
     }
 }
 
@@ -141,10 +139,12 @@ impl fmt::Display for Fault {
     ghost output = { λ x. Some (fault_text x) };
 
     fn fmt<W: fmt::Write>(&self, f: &mut fmt::Formatter<W>) -> fmt::Result {
-        let line = self.line;
-        let field = self.field;
-        let layer = self.layer;
-        let number = self.refusal.number();
-        write!(f, "F,{line},{field},{layer},{number}")
+        let Fault {
+            refusal,
+            line,
+            field,
+            layer,
+        } = self;
+        write!(f, "F,{line},{field},{layer},{}", refusal.number())
     }
 }

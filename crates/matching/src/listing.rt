@@ -1,17 +1,16 @@
 //! A whole ticket run, and its listing.
 
-ghost use Rattle.std.specs.Prelude.{◌≡◌, ℕ, ◌+◌, ◌^◌, ◌<◌, ◌≤◌, [], ◌++◌, map, length, string_bytes, MatchResult};
-ghost use Rattle.fault.specs.declared.failure.Failure.TheVariants.{NoMemory};
+ghost use Rattle.std.specs.Prelude.{◌≡◌, ◌≤◌, ◌++◌, map, length, string_bytes, IfOk};
 ghost use Rattle.ticket.specs.Tickets.{told};
-ghost use Rattle.matching.specs.Parts.{part_of, taking};
+ghost use Rattle.matching.specs.Parts.{part_of};
 ghost use Rattle.matching.specs.Shown.{Lists};
-ghost use Rattle.matching.specs.Listings.{line_answer, line_after, answers, answer_text, refusal, listing_of};
+ghost use Rattle.matching.specs.Listings.{line_answer, line_after, answers, answer_text, listing_of};
 
 use super::part::Part;
 use super::totals::Totals;
 use bales::OpenList;
 use fault::{Failure, Fault};
-use std::alloc::Global;
+use std::alloc::{AllocError, Global};
 use std::fmt::Write;
 use ticket::{Dialect, Reading, read_ticket};
 
@@ -26,51 +25,51 @@ fn run_line(part: Part, line: u32, reading: Reading) -> (Part, Result<(), Fault>
     }
 }
 
-/// Shows a refusal, and tells how many there are in this answer: none or one.
-fn show_answer(answer: Result<(), Fault>, listing: &mut String) -> Result<u32, Failure>
-    ensures { MatchResult result (λ n. (string_bytes listing.new ≡ string_bytes listing.old ++ answer_text answer) × (n ≡ refusal answer)) (λ e. e ≡ NoMemory) }
+/// Shows an answer, if it is a refusal.
+fn show_answer(answer: Result<(), Fault>, listing: &mut String) -> Result<(), AllocError>
+    ensures { IfOk result (λ _. string_bytes listing.new ≡ string_bytes listing.old ++ answer_text answer) }
 {
-    match answer {
-        Ok(()) => Ok(0),
-        Err(fault) => {
-            writeln!(listing, "{fault}")?;
-            Ok(1)
-        }
+    if let Err(fault) = answer {
+        writeln!(listing, "{fault}").map_err(|_| AllocError)?;
     }
+    Ok(())
 }
 
 /// Runs all lines, and shows each refusal.
-fn run_lines(part: Part, readings: &[Reading], listing: &mut String) -> Result<Totals, Failure>
+fn run_lines(
+    mut part: Part,
+    readings: &[Reading],
+    listing: &mut String,
+) -> Result<Totals, AllocError>
     requires { length readings.now ≤ 65536 }
-    ensures { MatchResult result (λ t. Lists (answers (part_of part) 1 (map told readings.now)) (string_bytes listing.old) (string_bytes listing.new) t) (λ e. e ≡ NoMemory) }
+    ensures { IfOk result (λ t. Lists (answers (part_of part) 1 (map told readings.now)) (string_bytes listing.old) (string_bytes listing.new) t) }
 {
-    let mut part = part;
-    let mut totals = Totals {
-        lines: 0,
-        refused: 0,
-    };
-    for reading in readings {
-        totals.lines += 1;
-        let (after, answer) = run_line(part, totals.lines, *reading);
+    let mut refused = 0;
+    for (i, reading) in readings.iter().enumerate() {
+        let (after, answer) = run_line(part, i as u32 + 1, *reading);
         part = after;
-        totals.refused += show_answer(answer, listing)?;
+        show_answer(answer, listing)?;
+        refused += u32::from(answer.is_err());
     }
-    Ok(totals)
+    Ok(Totals {
+        lines: readings.len() as u32,
+        refused,
+    })
 }
 
-/// The listing of a ticket. The one way to fail is want of memory.
-pub fn list_ticket(heap: Global, text: &[u8]) -> Result<String, Failure>
-    ensures { MatchResult result (λ s. string_bytes s ≡ listing_of text.now) (λ e. e ≡ NoMemory) }
+/// The listing of a ticket.
+pub fn list_ticket(heap: Global, text: &[u8]) -> Result<String, AllocError>
+    ensures { IfOk result (λ s. string_bytes s ≡ listing_of text.now) }
 {
     let mut listing = String::new(heap);
     match read_ticket(heap, Dialect::Match, text) {
         Ok(readings) => {
             let part = Part::Open(OpenList::open(heap)?);
             let totals = run_lines(part, readings.as_slice(), &mut listing)?;
-            writeln!(listing, "{totals}")?;
+            writeln!(listing, "{totals}").map_err(|_| AllocError)?;
         }
-        Err(Failure::Refused(fault)) => writeln!(listing, "{fault}")?,
-        Err(Failure::NoMemory) => return Err(Failure::NoMemory),
+        Err(Failure::Refused(fault)) => show_answer(Err(fault), &mut listing)?,
+        Err(Failure::NoMemory) => return Err(AllocError),
     }
     Ok(listing)
 }

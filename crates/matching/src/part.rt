@@ -18,7 +18,7 @@ pub enum Part {
 
 impl Part {
     /// Runs an entry: what became of it, and how far the ticket has come then. A refused entry
-    /// leaves everything as it was.
+    /// leaves everything as it was. The part is taken and given back, since closing moves its list.
     pub fn run_entry(self, line: u32, entry: Entry) -> (Part, Result<(), Fault>)
         ensures answer { result.1 ≡ answering (part_of self) line (said entry) }
         ensures after { part_of result.0 ≡ following (part_of self) line (said entry) }
@@ -31,27 +31,21 @@ impl Part {
 }
 
 /// An entry before the bale list is closed.
-fn run_open(list: OpenList, line: u32, entry: Entry) -> (Part, Result<(), Fault>)
+fn run_open(mut list: OpenList, line: u32, entry: Entry) -> (Part, Result<(), Fault>)
     ensures answer { result.1 ≡ answering (taking (open_weights list)) line (said entry) }
     ensures after { part_of result.0 ≡ following (taking (open_weights list)) line (said entry) }
 {
-    match entry {
-        Entry::Bale(place, weight) => {
-            let mut list = list;
-            let answer = list.enter(line, place, weight);
-            (Part::Open(list), answer)
-        }
+    let answer = match entry {
+        Entry::Bale(place, weight) => list.enter(line, place, weight),
         Entry::Close => match list.can_close(line) {
-            Ok(()) => (Part::Closed(list.close()), Ok(())),
-            Err(fault) => (Part::Open(list), Err(fault)),
+            Ok(()) => return (Part::Closed(list.close()), Ok(())),
+            Err(fault) => Err(fault),
         },
         Entry::Declare(_) | Entry::State(_) | Entry::Settle(_) => {
-            (
-                Part::Open(list),
-                Err(Fault::new(Refusal::WrongPart, line, 0)),
-            )
+            Err(Fault::new(Refusal::WrongPart, line, 0))
         }
-    }
+    };
+    (Part::Open(list), answer)
 }
 
 /// An entry after the bale list is closed. Cells, statements and settlings are let be.
@@ -59,13 +53,9 @@ fn run_closed(list: ClosedList, line: u32, entry: Entry) -> (Part, Result<(), Fa
     ensures answer { result.1 ≡ answering (closed (closed_weights list)) line (said entry) }
     ensures after { part_of result.0 ≡ following (closed (closed_weights list)) line (said entry) }
 {
-    match entry {
-        Entry::Bale(_, _) | Entry::Close => {
-            (
-                Part::Closed(list),
-                Err(Fault::new(Refusal::WrongPart, line, 0)),
-            )
-        }
-        Entry::Declare(_) | Entry::State(_) | Entry::Settle(_) => (Part::Closed(list), Ok(())),
-    }
+    let answer = match entry {
+        Entry::Bale(_, _) | Entry::Close => Err(Fault::new(Refusal::WrongPart, line, 0)),
+        Entry::Declare(_) | Entry::State(_) | Entry::Settle(_) => Ok(()),
+    };
+    (Part::Closed(list), answer)
 }

@@ -17,8 +17,7 @@ impl fmt::Display for Totals {
     ghost output = { λ t. Some (totals_text t.lines t.refused) };
 
     fn fmt<W: fmt::Write>(&self, f: &mut fmt::Formatter<W>) -> fmt::Result {
-        let lines = self.lines;
-        let refused = self.refused;
+        let Totals { lines, refused } = self;
         write!(f, "T,{lines},{refused}")
     }
 }

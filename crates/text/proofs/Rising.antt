@@ -1,6 +1,7 @@
 -- Reading rising places one after another.
-use Rattle.std.proofs.Common.{◌≡◌, ℕ, ◌+◌, ◌-◌, ◌^◌, ◌<◌, ◌≤◌, List, [], ◌∷◌, ◌++◌, Some, None, Option, sym, refl, ap, ◌∙◌, append_assoc, append-nil, arith}
+use Rattle.std.proofs.Common.{◌≡◌, ℕ, ◌+◌, ◌-◌, ◌^◌, ◌<◌, ◌≤◌, List, [], ◌∷◌, ◌++◌, length, get_or, drop, Some, None, Option, sym, refl, ap, ◌∙◌, append_assoc, append-nil, arith}
 use Rattle.std.proofs.lemmas.Bool.Decides.{nat_tests}
+use Rattle.std.proofs.lemmas.List.{drop_more, drop_all}
 use Rattle.std.specs.Option.{option_map}
 use Rattle.text.specs.Numbers.{number_of, within}
 use Rattle.text.specs.Lists.{rising, members}
@@ -12,28 +13,52 @@ narrower : (low low' high n : ℕ) (o : Option ℕ) → within low high o ≡ So
 narrower low low' high n None e le = grind arith
 narrower low low' high n (Some m) e le = grind (arith, nat_tests)
 
+outside : (last : ℕ) (o : Option ℕ) → within 1 99 o ≡ None → within (last + 1) 99 o ≡ None
+outside last None e = refl
+outside last (Some m) e = grind (arith, nat_tests)
+
+too-low : (last n : ℕ) (o : Option ℕ) → within 1 99 o ≡ Some n → n ≤ last → within (last + 1) 99 o ≡ None
+too-low last n None e le = refl
+too-low last n (Some m) e le = grind (arith, nat_tests)
+
 mapped-twice : {A : Type 0} (xs ys : List A) (n : A) (o : Option (List A)) → ys ≡ xs ++ (n ∷ []) → option_map (λ ns. xs ++ ns) (option_map (λ ns. n ∷ ns) o) ≡ option_map (λ ns. ys ++ ns) o
 mapped-twice xs ys n None e = refl
 mapped-twice xs ys n (Some ns) e = ap Some (sym (append_assoc xs (n ∷ []) ns) ∙ ap (λ t. t ++ ns) (sym e))
 
-module _ (last : ℕ) (p : List ℕ) (ps : List (List ℕ)) where
-  rising-more : (xs ys : List ℕ) (n : ℕ) → within 1 99 (number_of p) ≡ Some n → last < n → ys ≡ xs ++ (n ∷ []) → option_map (λ ns. xs ++ ns) (rising last (p ∷ ps)) ≡ option_map (λ ns. ys ++ ns) (rising n ps)
-  rising-more xs ys n e lt h = let w = narrower 1 (last + 1) 99 n (number_of p) e (omega arith) in rw w (mapped-twice xs ys n (rising n ps) h)
+-- the places of the set m stand before part i of all, and the parts from there on are to be read
+abbrev pub Reading : List (List ℕ) → ℕ → ℕ → ℕ → Option (List ℕ) → Type 0
+Reading all i m last total = (option_map (λ ns. members m ++ ns) (rising last (drop i all)) ≡ total) × (m < 2 ^ last) × (last ≤ 99)
 
--- one place more, read into a set of bits
-module _ (rest : List (List ℕ)) (part : List ℕ) (ps : List (List ℕ)) (bits last n x : ℕ) (total : Option (List ℕ))
-    (so_far : option_map (λ ns. members bits ++ ns) (rising last rest) ≡ total) (cut : rest ≡ part ∷ ps) (number : within 1 99 (number_of part) ≡ Some n) where
-  pub place-more : last < n → bits < 2 ^ last → x ≡ 2 ^ (n - 1) → option_map (λ ns. members (bits + x) ++ ns) (rising n ps) ≡ total
-  place-more lt few b =
-      let w = within-some 1 99 n (number_of part) number in
-      let m = bit-more bits last n few lt w.2 in
-      let push = ap (λ y. members (bits + y)) b ∙ members-push bits n w.1 w.2 m.1 in
-      sym (rising-more last part ps (members bits) (members (bits + x)) n number lt push) ∙ ap (λ l. option_map (λ ns. members bits ++ ns) (rising last l)) (sym cut) ∙ so_far
+-- one part more
+module _ (all : List (List ℕ)) (i m last : ℕ) (total : Option (List ℕ)) (so_far : Reading all i m last total) (part : List ℕ) (item : (i < length all) × (part ≡ get_or all i part)) where
+  here : drop i all ≡ part ∷ drop (i + 1) all
+  here = drop_more all i part item.0 ∙ ap (λ p. p ∷ drop (i + 1) all) (sym item.1)
 
-pub place-end : (rest : List (List ℕ)) (part : List ℕ) (bits last n x : ℕ) (total : Option (List ℕ)) → option_map (λ ns. members bits ++ ns) (rising last rest) ≡ total → rest ≡ part ∷ [] → within 1 99 (number_of part) ≡ Some n → last < n → bits < 2 ^ last → x ≡ 2 ^ (n - 1) → total ≡ Some (members (bits + x))
-place-end rest part bits last n x total so_far cut number lt few b =
-    sym (place-more rest part [] bits last n x total so_far cut number lt few b) ∙ ap Some (append-nil (members (bits + x)))
+  none-here : within (last + 1) 99 (number_of part) ≡ None → total ≡ None
+  none-here w = sym so_far.0 ∙ ap (λ ps. option_map (λ ns. members m ++ ns) (rising last ps)) here ∙ rw w
 
-pub place-first : (o : Option (List ℕ)) → option_map (λ ns. members 0 ++ ns) o ≡ o
-place-first None = refl
-place-first (Some ns) = ap (λ t. Some (t ++ ns)) members-none
+  pub part-bad : within 1 99 (number_of part) ≡ None → total ≡ None
+  part-bad e = none-here (outside last (number_of part) e)
+
+  module _ (n : ℕ) (number : within 1 99 (number_of part) ≡ Some n) where
+    pub part-low : n ≤ last → total ≡ None
+    part-low le = none-here (too-low last n (number_of part) number le)
+
+    pub part-more : last < n → (x j : ℕ) → x ≡ 2 ^ (n - 1) → j ≡ i + 1 → Reading all j (m + x) n total
+    part-more lt x j b je =
+        let w = within-some 1 99 n (number_of part) number in
+        let h = bit-more m last n so_far.1 lt w.2 in
+        let push = ap (λ y. members (m + y)) b ∙ members-push m n w.1 w.2 h.1 in
+        let v = narrower 1 (last + 1) 99 n (number_of part) number (omega arith) in
+        let r : option_map (λ ns. members m ++ ns) (rising last (part ∷ drop (i + 1) all)) ≡ option_map (λ ns. members (m + x) ++ ns) (rising n (drop (i + 1) all)) = rw v (mapped-twice (members m) (members (m + x)) n (rising n (drop (i + 1) all)) push) in
+        (ap (λ k. option_map (λ ns. members (m + x) ++ ns) (rising n (drop k all))) je ∙ sym r ∙ ap (λ ps. option_map (λ ns. members m ++ ns) (rising last ps)) (sym here) ∙ so_far.0, omega (arith, h.2), w.2)
+
+pub reading-none : (all : List (List ℕ)) → Reading all 0 0 0 (rising 0 all)
+reading-none all = (first (rising 0 all), omega arith, omega arith)
+  where
+    first : (o : Option (List ℕ)) → option_map (λ ns. members 0 ++ ns) o ≡ o
+    first None = refl
+    first (Some ns) = ap (λ t. Some (t ++ ns)) members-none
+
+pub reading-all : (all : List (List ℕ)) (i m last : ℕ) (total : Option (List ℕ)) → Reading all i m last total → length all ≤ i → total ≡ Some (members m)
+reading-all all i m last total so_far le = sym so_far.0 ∙ ap (λ ps. option_map (λ ns. members m ++ ns) (rising last ps)) (drop_all i all le) ∙ ap Some (append-nil (members m))

@@ -29,9 +29,6 @@ abbrev pub list_of : List ℕ → Option (List ℕ)
 list_of s = dash s (rising 0 (parts_of 43 s))
 
 -- the list in a field: 5 for whatever is wrong in it
-abbrev pub rising_at : ℕ → ℕ → List ℕ → Result (List ℕ) Fault
-rising_at line field s = ok_or (rising 0 (parts_of 43 s)) (fault_of BadList line field)
-
 abbrev pub list_at : ℕ → ℕ → List ℕ → Result (List ℕ) Fault
 list_at line field s = ok_or (list_of s) (fault_of BadList line field)
 

@@ -5,8 +5,8 @@ ghost use Rattle.std.specs.Option.{option_map};
 ghost use Rattle.text.specs.Answers.{Gives};
 ghost use Rattle.text.specs.Numbers.{digits_on, number_of, within, number_at};
 
-use bales::Ranged;
-use fault::{Fault, Refusal};
+use bales::{Range, Ranged};
+use fault::{Fault, Refusal, Spot};
 
 /// No number of a ticket is above this.
 const LARGEST: u32 = 1_000_000;
@@ -17,7 +17,7 @@ fn digits(text: &[u8]) -> Option<u32>
 {
     let mut number: u32 = 0;
     for byte in text {
-        if *byte < b'0' || *byte > b'9' {
+        if !byte.is_ascii_digit() {
             return None;
         }
         number = number * 10 + u32::from(*byte - b'0');
@@ -33,28 +33,21 @@ fn parse_number(text: &[u8]) -> Option<u32>
     ensures { result ≡ within 0 1000000 (number_of text.now) }
 {
     match text {
-        [] => None,
-        [b'0', _, ..] => None,
+        [] | [b'0', _, ..] => None,
         _ => digits(text),
     }
 }
 
-/// A number of a ranged type, if the text is one.
-pub fn parse_ranged<T: Ranged>(text: &[u8]) -> Option<T>
-    ensures { option_map T.Ranged.figure result ≡ within T.Ranged.low T.Ranged.high (number_of text.now) }
+/// A number of a range, if the text is one.
+pub fn parse_ranged<R: Range>(text: &[u8]) -> Option<Ranged<R>>
+    ensures { option_map (λ x. x.number) result ≡ within R.Range.LOW R.Range.HIGH (number_of text.now) }
 {
-    match parse_number(text) {
-        Some(number) => T::from_number(number),
-        None => None,
-    }
+    Ranged::from_number(parse_number(text)?)
 }
 
-/// A number of a ranged type; anything else is refused as a bad number at this line and field.
-pub fn read_ranged<T: Ranged>(text: &[u8], line: u32, field: u8) -> Result<T, Fault>
-    ensures { Gives T.Ranged.figure result (number_at T.Ranged.low T.Ranged.high line field text.now) }
+/// A number of a range; anything else is refused as a bad number at this spot.
+pub fn read_ranged<R: Range>(text: &[u8], spot: Spot) -> Result<Ranged<R>, Fault>
+    ensures { Gives (λ x. x.number) result (number_at R.Range.LOW R.Range.HIGH spot.line spot.field text.now) }
 {
-    match parse_ranged(text) {
-        Some(value) => Ok(value),
-        None => Err(Fault::new(Refusal::BadNumber, line, field)),
-    }
+    parse_ranged(text).ok_or(spot.refuse(Refusal::BadNumber))
 }

@@ -1,18 +1,14 @@
 //! A text cut at its separators: fields at commas, places at plus signs.
 
-ghost use Rattle.std.specs.Prelude.{◌≡◌, ◌<◌, [], ◌∷◌, ◌++◌, length, MatchOption};
-ghost use Rattle.text.specs.Parts.{parts_of, Lacks, Uncut, CutAt};
+ghost use Rattle.std.specs.Prelude.{◌≡◌, ◌<◌, ◌==◌, [], ◌∷◌, ◌++◌, length, MatchOption};
+ghost use Rattle.std.specs.List.{position};
+ghost use Rattle.text.specs.Parts.{parts_of, Lacks};
 
 /// Where the first separator of a text stands.
 fn position(text: &[u8], separator: u8) -> Option<usize>
-    ensures { MatchOption result (Uncut separator text.now) (CutAt separator text.now) }
+    ensures { result ≡ position (λ b. b == separator) text.now }
 {
-    for (i, byte) in text.iter().enumerate() {
-        if *byte == separator {
-            return Some(i);
-        }
-    }
-    None
+    text.iter().position(|byte| *byte == separator)
 }
 
 /// The first part of a text, and what follows its separator, if there is one.
@@ -22,7 +18,7 @@ pub fn cut(text: &[u8], separator: u8) -> (&[u8], Option<&[u8]>)
     ensures parts { MatchOption result.1 (parts_of separator text.now ≡ result.0.now ∷ []) (λ rest. (parts_of separator text.now ≡ result.0.now ∷ parts_of separator rest.now) × (length rest.now < length text.now)) }
 {
     match position(text, separator) {
-        Some(i) => (&text[0..i], Some(&text[i + 1..])),
+        Some(i) => (&text[..i], Some(&text[i + 1..])),
         None => (text, None),
     }
 }
@@ -31,11 +27,5 @@ pub fn cut(text: &[u8], separator: u8) -> (&[u8], Option<&[u8]>)
 pub fn count_parts(text: &[u8], separator: u8) -> usize
     ensures { result ≡ length (parts_of separator text.now) }
 {
-    let mut count = 1;
-    for byte in text {
-        if *byte == separator {
-            count += 1;
-        }
-    }
-    count
+    1 + text.iter().filter(|byte| **byte == separator).count()
 }

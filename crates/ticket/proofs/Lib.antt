@@ -1,4 +1,3 @@
 -- Lemmas, by subject.
-mod Names
 mod LineEnds
 mod RowsBack

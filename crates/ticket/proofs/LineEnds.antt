@@ -1,29 +1,31 @@
 -- The lines of a text.
-use Rattle.std.proofs.Common.{◌≡◌, ℕ, ◌+◌, ◌-◌, ◌<◌, ◌⊎◌, List, [], ◌∷◌, ◌++◌, map, length, get_or, Ok, Err, Result, sym, refl, ap, ◌∙◌, subst, inl, inr, ⊎_elim, append_assoc, append-nil, arith}
-use Rattle.std.proofs.lemmas.List.{length-append, get_or-append-add, map_push}
-use Rattle.fault.specs.declared.Fault.{Fault}
-use Rattle.ticket.specs.declared.entry.Entry.{Entry}
-use Rattle.ticket.specs.declared.word.Dialect.{Dialect}
+use Rattle.std.proofs.Common.{◌≡◌, ℕ, suc, ◌+◌, ◌-◌, ◌<◌, ◌≤◌, eqb, ◌⊎◌, List, [], ◌∷◌, ◌++◌, length, get_or, Some, None, Option, Bor, MatchOption, sym, refl, ap, ◌∙◌, subst, inl, inr, ⊎_elim, append_assoc, append-nil, arith}
+use Rattle.std.proofs.lemmas.List.{length-append, get_or-append-add}
+use Rattle.std.proofs.lemmas.Bool.{cond_both}
+use Rattle.std.specs.List.{onto_first}
+use Rattle.std.specs.Option.{unwrap_or}
 use Rattle.text.specs.Parts.{parts_of, rejoined, Lacks, All}
-use Rattle.text.specs.Answers.{Gives}
-use Rattle.ticket.specs.Entries.{Said, said}
-use Rattle.ticket.specs.Lines.{line_at}
-use Rattle.ticket.specs.Tickets.{last_line, ended, lines_of, lines_text, Splits, told, readings}
+use Rattle.ticket.specs.Tickets.{last_line, ended, lines_of, lines_text, Splits}
 use Rattle.text.proofs.Cuts.{parts-some, rejoined-parts, parts-lack, free-lacks}
 
 ended-more : (p : List ℕ) (ps : List (List ℕ)) → 0 < length ps → ended (p ∷ ps) ≡ p ∷ ended ps
 ended-more p [] some = absurd (omega arith)
 ended-more p (q ∷ qs) some = refl
 
-pub lines-cut : (s p rest : List ℕ) → parts_of 10 s ≡ p ∷ parts_of 10 rest → lines_of s ≡ p ∷ lines_of rest
+lines-cut : (s p rest : List ℕ) → parts_of 10 s ≡ p ∷ parts_of 10 rest → lines_of s ≡ p ∷ lines_of rest
 lines-cut s p rest e = ap ended e ∙ ended-more p (parts_of 10 rest) (parts-some 10 rest)
 
 last-some : (p : List ℕ) → 0 < length p → last_line p ≡ p ∷ []
 last-some [] some = absurd (omega arith)
 last-some (c ∷ cs) some = refl
 
-pub lines-last : (s p : List ℕ) → parts_of 10 s ≡ p ∷ [] → s ≡ p → 0 < length s → lines_of s ≡ p ∷ []
+lines-last : (s p : List ℕ) → parts_of 10 s ≡ p ∷ [] → s ≡ p → 0 < length s → lines_of s ≡ p ∷ []
 lines-last s p e w some = ap ended e ∙ last-some p (omega (arith, ap length w))
+
+-- the first line of a text that is cut at its first byte 10, and what follows
+pub first-line : (s line : List ℕ) (o : Option (Bor (List ℕ))) (none rest : Bor (List ℕ)) → rest ≡ unwrap_or o none → none.now ≡ [] → MatchOption o (s ≡ line) (λ r. s ≡ line ++ (10 ∷ r.now)) → MatchOption o (parts_of 10 s ≡ line ∷ []) (λ r. (parts_of 10 s ≡ line ∷ parts_of 10 r.now) × (length r.now < length s)) → 0 < length s → lines_of s ≡ line ∷ lines_of rest.now
+first-line s line None none rest u e w p some = rw (u, e) (lines-last s line p w some)
+first-line s line (Some r) none rest u e w p some = rw u (lines-cut s line r.now p.0)
 
 -- the text of the lines, and what may lack of it
 Whole : List ℕ → List (List ℕ) → Type 0
@@ -82,16 +84,16 @@ splits s = record {
   whole = subst (λ x. Whole x (lines_of s)) (rejoined-parts 10 s) (whole-ended (parts_of 10 s) (parts-some 10 s) (parts-lack 10 s));
 }
 
-pub told-is : (r : Result Entry Fault) (wanted : Result Said Fault) → Gives said r wanted → wanted ≡ told r
-told-is (Ok e) wanted g = g
-told-is (Err f) wanted g = g
+-- a text has at most as many lines as bytes
+few-onto : (c : ℕ) (ps : List (List ℕ)) → length (ended (onto_first c ps)) ≤ 1 + length (ended ps)
+few-onto c [] = omega arith
+few-onto c ([] ∷ []) = omega arith
+few-onto c ((d ∷ ds) ∷ []) = omega arith
+few-onto c (p ∷ q ∷ qs) = omega arith
 
--- one reading more
-pub readings-more : (dialect : Dialect) (n : ℕ) (line rest s : List ℕ) (all : List (Result Said Fault)) (xs ys : List (Result Entry Fault)) (x : Result Entry Fault) → ys ≡ xs ++ (x ∷ []) → line_at dialect n line ≡ told x → lines_of s ≡ line ∷ lines_of rest → map told xs ++ readings dialect n (lines_of s) ≡ all → map told ys ++ readings dialect (n + 1) (lines_of rest) ≡ all
-readings-more dialect n line rest s all xs ys x push e l so_far =
-    ap (λ t. map told t ++ readings dialect (n + 1) (lines_of rest)) push
-    ∙ ap (λ t. t ++ readings dialect (n + 1) (lines_of rest)) (map_push told xs x)
-    ∙ append_assoc (map told xs) (told x ∷ []) _
-    ∙ ap (λ r. map told xs ++ (r ∷ readings dialect (n + 1) (lines_of rest))) (sym e)
-    ∙ ap (λ t. map told xs ++ readings dialect n t) (sym l)
-    ∙ so_far
+pub few-lines : (s : List ℕ) → length (lines_of s) ≤ length s
+few-lines [] = omega arith
+few-lines (c ∷ cs) =
+    cond_both (eqb c 10) ([] ∷ parts_of 10 cs) (onto_first c (parts_of 10 cs)) (λ ps. length (ended ps) ≤ suc (length cs))
+    (λ _. omega (arith, ap length (ended-more [] (parts_of 10 cs) (parts-some 10 cs)), few-lines cs))
+    (λ _. omega (arith, few-onto c (parts_of 10 cs), few-lines cs))

@@ -32,7 +32,7 @@ pub data Said : Type 0 where
 
 abbrev pub bounds : Row → Bounds
 bounds (Group cell sure possible) = group cell.number (listed sure) (listed possible)
-bounds (Number cell low high) = number cell.number low.value high.value
+bounds (Number cell low high) = number cell.number low.number high.number
 
 abbrev pub claim : Statement → Claim
 claim (Pair word first second) = pair word first.number second.number
@@ -40,8 +40,8 @@ claim (Triple word first second third) = triple word first.number second.number 
 claim (Member word first place) = member word first.number place.number
 
 abbrev pub said : Entry → Said
-said (Bale place weight) = bale place.number weight.pounds
+said (Bale place weight) = bale place.number weight.number
 said Close = close
 said (Declare row) = declare (bounds row)
 said (State statement) = state (claim statement)
-said (Settle limit) = settle limit.cuts
+said (Settle limit) = settle limit.number

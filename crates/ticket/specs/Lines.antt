@@ -63,6 +63,10 @@ group_at line fs = and_then (cell_at line 2 fs) (λ c. and_then (places_at line 
 abbrev pub range_at : ℕ → List (List ℕ) → Result Said Fault
 range_at line fs = and_then (cell_at line 2 fs) (λ c. and_then (amount_at line 3 fs) (λ l. and_then (amount_at line 4 fs) (λ h. Ok (declare (number c l h)))))
 
+-- a cell, then a number from low to high, then `-`
+abbrev pub two_at : ℕ → ℕ → ℕ → List (List ℕ) → Result (ℕ × ℕ) Fault
+two_at low high line fs = and_then (cell_at line 3 fs) (λ a. and_then (number_at low high line 4 (field 4 fs)) (λ b. and_then (unused_at line 5 fs) (λ _. Ok (a, b))))
+
 -- S,word,first,second,-
 abbrev pub pair_at : ℕ → PairWord → List (List ℕ) → Result Said Fault
 pair_at line word fs = and_then (cell_at line 3 fs) (λ a. and_then (cell_at line 4 fs) (λ b. and_then (unused_at line 5 fs) (λ _. Ok (state (pair word a b)))))

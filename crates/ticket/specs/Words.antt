@@ -1,5 +1,6 @@
 -- The letters and the words that each dialect knows.
 use Rattle.std.specs.Prelude.{ℕ, Bool, true, false, cond, List, [], ◌∷◌, Some, None, Err, codes, Option, Result, ◌==◌}
+use Rattle.std.specs.List.{find}
 use Rattle.std.specs.Option.{ok_or}
 use Rattle.std.specs.Str.{bytes_eq}
 use Rattle.fault.specs.declared.Fault.{Fault}
@@ -35,8 +36,7 @@ words_of Scale = Triple Sum ∷ Pair Most ∷ []
 
 -- the word of that name among these
 abbrev pub named : List Word → List ℕ → Option Word
-named [] s = None
-named (w ∷ ws) s = cond (bytes_eq (name_of w) s) (Some w) (named ws s)
+named ws s = find (λ w. bytes_eq (name_of w) s) ws
 
 -- the word in field 2: 6 where the dialect knows none of that name
 abbrev pub word_at : Dialect → ℕ → List ℕ → Result Word Fault

@@ -1,34 +1,28 @@
 //! What a line of a ticket says.
 
-ghost use Rattle.std.specs.Prelude.{◌≤◌, Some, decimal};
 ghost use Rattle.std.proofs.Common.{lit≤};
 
 use super::word::{MemberWord, PairWord, TripleWord};
-use bales::{Place, Ranged, Weight};
-use std::fmt;
+use bales::{Place, Range, Ranged, Weight};
 use text::PlaceList;
 
-/// The number of a cell as tickets write it, 1 to 99.
+/// Numbers of cells as tickets write them, 1 to 99.
 #[derive(Clone, Copy)]
-pub struct CellNumber {
-    number: u8,
-    ghost least: { 1 ≤ number },
-    ghost most: { number ≤ 99 },
-}
+pub struct CellNumbers;
 
-/// An end of a number cell, 0 to 1,000,000.
+/// Ends of number cells, 0 to 1,000,000.
 #[derive(Clone, Copy)]
-pub struct End {
-    value: u32,
-    ghost most: { value ≤ 1000000 },
-}
+pub struct Ends;
 
 /// How many cuts a settling may make, 0 to 1,000,000.
 #[derive(Clone, Copy)]
-pub struct CutLimit {
-    cuts: u32,
-    ghost most: { cuts ≤ 1000000 },
-}
+pub struct CutLimits;
+
+pub type CellNumber = Ranged<CellNumbers>;
+
+pub type End = Ranged<Ends>;
+
+pub type CutLimit = Ranged<CutLimits>;
 
 /// A cell with its bounds, as a line declares it and as a listing shows it.
 #[derive(Clone, Copy)]
@@ -63,76 +57,38 @@ pub enum Entry {
     Settle(CutLimit),
 }
 
-impl Ranged for CellNumber {
-    ghost low = { 1 };
+impl Range for CellNumbers {
+    const LOW: u32 = 1;
 
-    ghost high = { 99 };
+    const HIGH: u32 = 99;
 
-    ghost figure = { λ c. c.number };
+    ghost LOW = { 1 };
 
-    ghost small = { lit≤ tt };
-
-    fn from_number(number: u32) -> Option<CellNumber> {
-        if 1 <= number && number <= 99 {
-            Some(CellNumber {
-                number: number as u8,
-            })
-        } else {
-            None
-        }
-    }
-}
-
-impl Ranged for End {
-    ghost low = { 0 };
-
-    ghost high = { 1000000 };
-
-    ghost figure = { λ e. e.value };
+    ghost HIGH = { 99 };
 
     ghost small = { lit≤ tt };
-
-    fn from_number(number: u32) -> Option<End> {
-        if number <= 1_000_000 {
-            Some(End { value: number })
-        } else {
-            None
-        }
-    }
 }
 
-impl Ranged for CutLimit {
-    ghost low = { 0 };
+impl Range for Ends {
+    const LOW: u32 = 0;
 
-    ghost high = { 1000000 };
+    const HIGH: u32 = 1_000_000;
 
-    ghost figure = { λ l. l.cuts };
+    ghost LOW = { 0 };
+
+    ghost HIGH = { 1000000 };
 
     ghost small = { lit≤ tt };
-
-    fn from_number(number: u32) -> Option<CutLimit> {
-        if number <= 1_000_000 {
-            Some(CutLimit { cuts: number })
-        } else {
-            None
-        }
-    }
 }
 
-impl fmt::Display for CellNumber {
-    ghost output = { λ c. Some (decimal c.number) };
+impl Range for CutLimits {
+    const LOW: u32 = 0;
 
-    fn fmt<W: fmt::Write>(&self, f: &mut fmt::Formatter<W>) -> fmt::Result {
-        let number = self.number;
-        write!(f, "{number}")
-    }
-}
+    const HIGH: u32 = 1_000_000;
 
-impl fmt::Display for End {
-    ghost output = { λ e. Some (decimal e.value) };
+    ghost LOW = { 0 };
 
-    fn fmt<W: fmt::Write>(&self, f: &mut fmt::Formatter<W>) -> fmt::Result {
-        let value = self.value;
-        write!(f, "{value}")
-    }
+    ghost HIGH = { 1000000 };
+
+    ghost small = { lit≤ tt };
 }

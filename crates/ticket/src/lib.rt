@@ -2,12 +2,13 @@
 #![tactic(auto)]
 
 pub mod entry;
+mod fields;
 pub mod line;
 pub mod lines;
 pub mod row;
 pub mod vocabulary;
 pub mod word;
 
-pub use entry::{CellNumber, CutLimit, End, Entry, Row, Statement};
+pub use entry::{CellNumber, CellNumbers, CutLimit, CutLimits, End, Ends, Entry, Row, Statement};
 pub use lines::{Reading, read_ticket};
 pub use word::{Dialect, MemberWord, PairWord, TripleWord};

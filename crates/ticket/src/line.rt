@@ -1,162 +1,119 @@
 //! One line of a ticket read as an entry.
 
-ghost use Rattle.std.specs.Prelude.{◌≡◌, ℕ, ◌≤◌, List, [], length, slice_index_or};
-ghost use Rattle.std.specs.Option.{option_map};
+ghost use Rattle.std.specs.Prelude.{ℕ, ◌≤◌, List, length};
 ghost use Rattle.text.specs.Answers.{Gives};
 ghost use Rattle.ticket.specs.Entries.{said};
-ghost use Rattle.ticket.specs.Fields.{following, After};
-ghost use Rattle.ticket.specs.Lines.{dash_at, bale_at, group_at, range_at, pair_at, triple_at, member_at, statement_at, settle_at, body_at, line_at};
+ghost use Rattle.ticket.specs.Fields.{After, ahead};
+ghost use Rattle.ticket.specs.Lines.{bale_at, group_at, range_at, two_at, pair_at, triple_at, member_at, statement_at, settle_at, body_at, line_at};
 
-use super::entry::{CellNumber, CutLimit, End, Entry, Row, Statement};
+use super::entry::{CellNumber, Entry, Row, Statement};
+use super::fields::Fields;
 use super::vocabulary::{read_letter, read_word};
 use super::word::{Dialect, Letter, MemberWord, PairWord, TripleWord, Word};
-use bales::{Place, Weight};
+use bales::{Range, Ranged};
 use fault::{Fault, Refusal};
-use text::list::read::read_list;
-use text::numbers::read_ranged;
 use text::parts::{count_parts, cut};
 
 /// A line has at most this many bytes, its final byte 10 not counted.
 const LONGEST: usize = 400;
 
-/// The next field, and what follows its comma; past the last field, an empty one.
-fn take_field(rest: Option<&[u8]>) -> (&[u8], Option<&[u8]>)
-    ensures field { result.0.now ≡ slice_index_or (following (option_map (λ x. x.now) rest.entry)) 0 [] }
-    ensures others { After (following (option_map (λ x. x.now) rest.entry)) (following (option_map (λ x. x.now) result.1)) }
-{
-    match rest {
-        Some(text) => cut(text, b','),
-        None => (&[], None),
-    }
-}
-
-/// The field of an operand that the word does not take.
-fn read_unused(text: &[u8], line: u32, field: u8) -> Result<(), Fault>
-    ensures { result ≡ dash_at line field text.now }
-{
-    match text {
-        [b'-'] => Ok(()),
-        _ => Err(Fault::new(Refusal::BadNumber, line, field)),
-    }
-}
-
 /// `B,place,weight`, after its letter.
-fn read_bale(rest: Option<&[u8]>, line: u32) -> Result<Entry, Fault>
-    ensures { Gives said result (bale_at line (following (option_map (λ x. x.now) rest.entry))) }
+fn read_bale(mut fields: Fields) -> Result<Entry, Fault>
+    ensures { Gives said result (bale_at fields.entry.line (ahead fields.entry)) }
 {
-    let (place, rest) = take_field(rest);
-    let place = read_ranged::<Place>(place, line, 2)?;
-    let (weight, _) = take_field(rest);
-    let weight = read_ranged::<Weight>(weight, line, 3)?;
-    Ok(Entry::Bale(place, weight))
+    Ok(Entry::Bale(fields.number(2)?, fields.number(3)?))
 }
 
 /// `G,cell,sure,possible`, after its letter.
-fn read_group(rest: Option<&[u8]>, line: u32) -> Result<Entry, Fault>
-    ensures { Gives said result (group_at line (following (option_map (λ x. x.now) rest.entry))) }
+fn read_group(mut fields: Fields) -> Result<Entry, Fault>
+    ensures { Gives said result (group_at fields.entry.line (ahead fields.entry)) }
 {
-    let (cell, rest) = take_field(rest);
-    let cell = read_ranged::<CellNumber>(cell, line, 2)?;
-    let (sure, rest) = take_field(rest);
-    let sure = read_list(sure, line, 3)?;
-    let (possible, _) = take_field(rest);
-    let possible = read_list(possible, line, 4)?;
     Ok(Entry::Declare(Row::Group {
-        cell,
-        sure,
-        possible,
+        cell: fields.number(2)?,
+        sure: fields.places(3)?,
+        possible: fields.places(4)?,
     }))
 }
 
 /// `N,cell,low,high`, after its letter.
-fn read_range(rest: Option<&[u8]>, line: u32) -> Result<Entry, Fault>
-    ensures { Gives said result (range_at line (following (option_map (λ x. x.now) rest.entry))) }
+fn read_range(mut fields: Fields) -> Result<Entry, Fault>
+    ensures { Gives said result (range_at fields.entry.line (ahead fields.entry)) }
 {
-    let (cell, rest) = take_field(rest);
-    let cell = read_ranged::<CellNumber>(cell, line, 2)?;
-    let (low, rest) = take_field(rest);
-    let low = read_ranged::<End>(low, line, 3)?;
-    let (high, _) = take_field(rest);
-    let high = read_ranged::<End>(high, line, 4)?;
-    Ok(Entry::Declare(Row::Number { cell, low, high }))
+    Ok(Entry::Declare(Row::Number {
+        cell: fields.number(2)?,
+        low: fields.number(3)?,
+        high: fields.number(4)?,
+    }))
+}
+
+/// `first,second,-`, after a word over a cell and what `R` counts.
+fn read_two<R: Range>(mut fields: Fields) -> Result<(CellNumber, Ranged<R>), Fault>
+    ensures { (fs : List (List ℕ)) → After fs (ahead fields.entry) → Gives (λ x. (x.0.number, x.1.number)) result (two_at R.Range.LOW R.Range.HIGH fields.entry.line fs) }
+{
+    let first = fields.number(3)?;
+    let second = fields.number(4)?;
+    fields.unused(5)?;
+    Ok((first, second))
 }
 
 /// `first,second,-`, after a word over two cells.
-fn read_pair(word: PairWord, rest: Option<&[u8]>, line: u32) -> Result<Entry, Fault>
-    ensures { (fs : List (List ℕ)) → After fs (following (option_map (λ x. x.now) rest.entry)) → Gives said result (pair_at line word fs) }
+fn read_pair(word: PairWord, fields: Fields) -> Result<Entry, Fault>
+    ensures { (fs : List (List ℕ)) → After fs (ahead fields.entry) → Gives said result (pair_at fields.entry.line word fs) }
 {
-    let (first, rest) = take_field(rest);
-    let first = read_ranged::<CellNumber>(first, line, 3)?;
-    let (second, rest) = take_field(rest);
-    let second = read_ranged::<CellNumber>(second, line, 4)?;
-    let (third, _) = take_field(rest);
-    read_unused(third, line, 5)?;
+    let (first, second) = read_two(fields)?;
     Ok(Entry::State(Statement::Pair(word, first, second)))
 }
 
 /// `first,second,third`, after a word over three cells.
-fn read_triple(word: TripleWord, rest: Option<&[u8]>, line: u32) -> Result<Entry, Fault>
-    ensures { (fs : List (List ℕ)) → After fs (following (option_map (λ x. x.now) rest.entry)) → Gives said result (triple_at line word fs) }
+fn read_triple(word: TripleWord, mut fields: Fields) -> Result<Entry, Fault>
+    ensures { (fs : List (List ℕ)) → After fs (ahead fields.entry) → Gives said result (triple_at fields.entry.line word fs) }
 {
-    let (first, rest) = take_field(rest);
-    let first = read_ranged::<CellNumber>(first, line, 3)?;
-    let (second, rest) = take_field(rest);
-    let second = read_ranged::<CellNumber>(second, line, 4)?;
-    let (third, _) = take_field(rest);
-    let third = read_ranged::<CellNumber>(third, line, 5)?;
-    Ok(Entry::State(Statement::Triple(word, first, second, third)))
+    Ok(Entry::State(Statement::Triple(
+        word,
+        fields.number(3)?,
+        fields.number(4)?,
+        fields.number(5)?,
+    )))
 }
 
 /// `first,place,-`, after a word over a cell and a place.
-fn read_member(word: MemberWord, rest: Option<&[u8]>, line: u32) -> Result<Entry, Fault>
-    ensures { (fs : List (List ℕ)) → After fs (following (option_map (λ x. x.now) rest.entry)) → Gives said result (member_at line word fs) }
+fn read_member(word: MemberWord, fields: Fields) -> Result<Entry, Fault>
+    ensures { (fs : List (List ℕ)) → After fs (ahead fields.entry) → Gives said result (member_at fields.entry.line word fs) }
 {
-    let (first, rest) = take_field(rest);
-    let first = read_ranged::<CellNumber>(first, line, 3)?;
-    let (place, rest) = take_field(rest);
-    let place = read_ranged::<Place>(place, line, 4)?;
-    let (third, _) = take_field(rest);
-    read_unused(third, line, 5)?;
+    let (first, place) = read_two(fields)?;
     Ok(Entry::State(Statement::Member(word, first, place)))
 }
 
 /// `S,word,first,second,third`, after its letter.
-fn read_statement(dialect: Dialect, rest: Option<&[u8]>, line: u32) -> Result<Entry, Fault>
-    ensures { Gives said result (statement_at dialect line (following (option_map (λ x. x.now) rest.entry))) }
+fn read_statement(dialect: Dialect, mut fields: Fields) -> Result<Entry, Fault>
+    ensures { Gives said result (statement_at dialect fields.entry.line (ahead fields.entry)) }
 {
-    let (word, rest) = take_field(rest);
-    match read_word(dialect, word, line)? {
-        Word::Pair(word) => read_pair(word, rest, line),
-        Word::Triple(word) => read_triple(word, rest, line),
-        Word::Member(word) => read_member(word, rest, line),
+    let line = fields.line;
+    match read_word(dialect, fields.take(), line)? {
+        Word::Pair(word) => read_pair(word, fields),
+        Word::Triple(word) => read_triple(word, fields),
+        Word::Member(word) => read_member(word, fields),
     }
 }
 
 /// `W,cutlimit`, after its letter.
-fn read_settle(rest: Option<&[u8]>, line: u32) -> Result<Entry, Fault>
-    ensures { Gives said result (settle_at line (following (option_map (λ x. x.now) rest.entry))) }
+fn read_settle(mut fields: Fields) -> Result<Entry, Fault>
+    ensures { Gives said result (settle_at fields.entry.line (ahead fields.entry)) }
 {
-    let (limit, _) = take_field(rest);
-    let limit = read_ranged::<CutLimit>(limit, line, 2)?;
-    Ok(Entry::Settle(limit))
+    Ok(Entry::Settle(fields.number(2)?))
 }
 
 /// The fields after the letter.
-fn read_body(
-    dialect: Dialect,
-    letter: Letter,
-    rest: Option<&[u8]>,
-    line: u32,
-) -> Result<Entry, Fault>
-    ensures { Gives said result (body_at dialect line (following (option_map (λ x. x.now) rest.entry)) letter) }
+fn read_body(dialect: Dialect, letter: Letter, fields: Fields) -> Result<Entry, Fault>
+    ensures { Gives said result (body_at dialect fields.entry.line (ahead fields.entry) letter) }
 {
     match letter {
-        Letter::Bale => read_bale(rest, line),
+        Letter::Bale => read_bale(fields),
         Letter::Close => Ok(Entry::Close),
-        Letter::Group => read_group(rest, line),
-        Letter::Number => read_range(rest, line),
-        Letter::State => read_statement(dialect, rest, line),
-        Letter::Settle => read_settle(rest, line),
+        Letter::Group => read_group(fields),
+        Letter::Number => read_range(fields),
+        Letter::State => read_statement(dialect, fields),
+        Letter::Settle => read_settle(fields),
     }
 }
 
@@ -170,7 +127,7 @@ fn read_fields(dialect: Dialect, text: &[u8], line: u32) -> Result<Entry, Fault>
     if count_parts(text, b',') != letter.field_count() {
         return Err(Fault::new(Refusal::FieldCount, line, 0));
     }
-    read_body(dialect, letter, rest, line)
+    read_body(dialect, letter, Fields { line, rest })
 }
 
 /// What a line says, or the one fault that refuses it: too long, then its letter, then its count
@@ -190,10 +147,7 @@ mod tests {
     use std::test::Fail;
 
     fn refusal(text: &[u8]) -> Option<Fault> {
-        match read_line(Dialect::Scale, text, 7) {
-            Ok(_) => None,
-            Err(fault) => Some(fault),
-        }
+        read_line(Dialect::Scale, text, 7).err()
     }
 
     #[test]

@@ -1,6 +1,7 @@
 //! The lines of a ticket, and a whole ticket read.
 
-ghost use Rattle.std.specs.Prelude.{◌≡◌, ◌<◌, [], ◌∷◌, map, length, MatchResult};
+ghost use Rattle.std.specs.Prelude.{MatchResult};
+ghost use Rattle.std.specs.Iterator.{YieldsFirstBy, item_count};
 ghost use Rattle.ticket.specs.Rounds.{RoundTrips};
 ghost use Rattle.ticket.specs.Tickets.{lines_of, Splits, Reads, Refuses};
 
@@ -17,14 +18,26 @@ const LARGEST: usize = 65536;
 /// What a line is read as.
 pub type Reading = Result<Entry, Fault>;
 
-/// The first line of a text that is not empty, and what follows its byte 10.
-fn take_line(text: &[u8]) -> (&[u8], &[u8])
-    ensures { 0 < length text.now → (lines_of text.now ≡ result.0.now ∷ lines_of result.1.now) × (length result.1.now < length text.now) }
-{
-    let (line, rest) = cut(text, b'\n');
-    match rest {
-        Some(rest) => (line, rest),
-        None => (line, &[]),
+/// The lines of a text, one after another.
+#[derive(Drop)]
+struct Lines<'a> {
+    rest: &'a [u8],
+}
+
+impl<'a> Iterator for Lines<'a> {
+    type Item = &'a [u8];
+
+    ghost next_gives = { YieldsFirstBy (λ x. x.now) (λ s. lines_of s.rest.now) };
+
+    ghost remaining = { item_count (λ s. lines_of s.rest.now) };
+
+    fn next(&mut self) -> Option<&'a [u8]> {
+        if self.rest.is_empty() {
+            return None;
+        }
+        let (line, rest) = cut(self.rest, b'\n');
+        self.rest = rest.unwrap_or(&[]);
+        Some(line)
     }
 }
 
@@ -39,13 +52,9 @@ pub fn read_ticket(heap: Global, dialect: Dialect, text: &[u8]) -> Result<Vec<Re
         return Err(Failure::Refused(Fault::new(Refusal::TicketTooLong, 0, 0)));
     }
     let mut readings = Vec::new(heap);
-    let mut rest = text;
-    let mut line: u32 = 1;
-    'lines: while rest.len() > 0 {
-        let (here, after) = take_line(rest);
-        readings.push(read_line(dialect, here, line))?;
-        line += 1;
-        rest = after;
+    for line in (Lines { rest: text }) {
+        let number = readings.len() as u32 + 1;
+        readings.push(read_line(dialect, line, number))?;
     }
     Ok(readings)
 }

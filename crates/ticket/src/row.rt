@@ -1,6 +1,6 @@
 //! Rows written as text.
 
-ghost use Rattle.std.specs.Prelude.{Some, decimal};
+ghost use Rattle.std.specs.Prelude.{Some};
 ghost use Rattle.ticket.specs.Entries.{bounds};
 ghost use Rattle.ticket.specs.Rows.{row_text};
 

@@ -1,6 +1,8 @@
 //! Letters and words read from a line.
 
 ghost use Rattle.std.specs.Prelude.{◌≡◌};
+ghost use Rattle.std.specs.Option.{ok_or};
+ghost use Rattle.fault.specs.declared.Refusal.TheVariants.{UnknownLetter};
 ghost use Rattle.ticket.specs.Words.{name_of, words_of, word_at, letter_of, knows_letter, letter_at, field_count, named};
 
 use super::word::{Dialect, Letter, MemberWord, PairWord, TripleWord, Word};
@@ -68,21 +70,25 @@ impl Dialect {
     }
 }
 
-impl Letter {
-    fn from_char(letter: char) -> Option<Letter>
-        ensures { result ≡ letter_of letter }
-    {
-        match letter {
-            'B' => Some(Letter::Bale),
-            'C' => Some(Letter::Close),
-            'G' => Some(Letter::Group),
-            'N' => Some(Letter::Number),
-            'S' => Some(Letter::State),
-            'W' => Some(Letter::Settle),
-            _ => None,
+impl TryFrom<u8> for Letter {
+    type Error = Refusal;
+
+    ghost try_from_gives = { λ byte r. r ≡ ok_or (letter_of byte) UnknownLetter };
+
+    fn try_from(byte: u8) -> Result<Letter, Refusal> {
+        match byte {
+            b'B' => Ok(Letter::Bale),
+            b'C' => Ok(Letter::Close),
+            b'G' => Ok(Letter::Group),
+            b'N' => Ok(Letter::Number),
+            b'S' => Ok(Letter::State),
+            b'W' => Ok(Letter::Settle),
+            _ => Err(Refusal::UnknownLetter),
         }
     }
+}
 
+impl Letter {
     /// How many fields a line of this letter has, the letter among them.
     pub fn field_count(self) -> usize
         ensures { result ≡ field_count self }
@@ -103,11 +109,11 @@ pub fn read_letter(dialect: Dialect, text: &[u8], line: u32) -> Result<Letter, F
     ensures { result ≡ letter_at dialect line text.now }
 {
     let unknown = Fault::new(Refusal::UnknownLetter, line, 1);
-    let [byte] = text else {
-        return Err(unknown);
-    };
-    match Letter::from_char(char::from(*byte)) {
-        Some(letter) if dialect.knows(letter) => Ok(letter),
+    match text {
+        [byte] => Letter::try_from(*byte)
+            .ok()
+            .filter(|letter| dialect.knows(*letter))
+            .ok_or(unknown),
         _ => Err(unknown),
     }
 }
@@ -116,20 +122,12 @@ pub fn read_letter(dialect: Dialect, text: &[u8], line: u32) -> Result<Letter, F
 fn find_word(words: &[Word], text: &[u8]) -> Option<Word>
     ensures { result ≡ named words.now text.now }
 {
-    for word in words {
-        if word.name() == text {
-            return Some(*word);
-        }
-    }
-    None
+    words.iter().copied().find(|word| word.name() == text)
 }
 
 /// The word of a statement.
 pub fn read_word(dialect: Dialect, text: &[u8], line: u32) -> Result<Word, Fault>
     ensures { result ≡ word_at dialect line text.now }
 {
-    match find_word(dialect.words(), text) {
-        Some(word) => Ok(word),
-        None => Err(Fault::new(Refusal::UnknownWord, line, 2)),
-    }
+    find_word(dialect.words(), text).ok_or(Fault::new(Refusal::UnknownWord, line, 2))
 }

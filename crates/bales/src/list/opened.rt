@@ -27,7 +27,7 @@ impl OpenList {
     /// Puts a bale behind the others.
     fn put(&mut self, weight: Weight)
         requires { length (open_weights self.old) < 64 }
-        ensures { open_weights self.new ≡ open_weights self.old ++ (weight.pounds ∷ []) }
+        ensures { open_weights self.new ≡ open_weights self.old ++ (weight.number ∷ []) }
     {
         self.bales.push_reserved(Bale { weight });
     }
@@ -35,7 +35,7 @@ impl OpenList {
     /// Takes a bale at the next place; refuses a 65th bale, then a place that is not the next.
     pub fn enter(&mut self, line: u32, place: Place, weight: Weight) -> Result<(), Fault>
         ensures answer { result ≡ entering (open_weights self.old) line place.number }
-        ensures after { open_weights self.new ≡ (if is_ok result then open_weights self.old ++ (weight.pounds ∷ []) else open_weights self.old) }
+        ensures after { open_weights self.new ≡ (if is_ok result then open_weights self.old ++ (weight.number ∷ []) else open_weights self.old) }
         ensures same { is_ok result ≡ false → self.new ≡ self.old }
     {
         if self.count() >= 64 {
@@ -83,7 +83,7 @@ fn table_of(bales: &[Bale]) -> [u16; 64]
 // Puts a weight where it belongs in a table.
 fn put_weight(table: &mut [u16; 64], i: usize, weight: Weight)
     requires { i < 64 }
-    ensures { table.new ≡ slice_set table.old i weight.pounds }
+    ensures { table.new ≡ slice_set table.old i weight.number }
 {
     table[i] = weight.pounds();
 }

@@ -5,5 +5,5 @@ use Rattle.matching.specs.Listings.{answers}
 use Rattle.matching.proofs.Runs.{Running}
 use Rattle.matching.proofs.listing.run_lines.Given as goal
 
-abbrev pub invariant-loop-reading : goal.invariant-loop-reading
-invariant-loop-reading l = Running (answers (part_of l.initial.part) 1 (map told l.readings)) (string_bytes l.initial.listing) (string_bytes l.listing) l.totals (part_of l.part) l.reading-index l.readings
+abbrev pub invariant-loop-i : goal.invariant-loop-i
+invariant-loop-i l = Running (answers (part_of l.initial.part) 1 (map told l.readings)) (string_bytes l.initial.listing) (string_bytes l.listing) l.refused (part_of l.part) l.i l.readings

@@ -1,18 +1,7 @@
 use Rattle.std.proofs.Common.{◌+◌, ◌-◌, ◌*◌, get_or, drop, arith}
 use Rattle.std.proofs.lemmas.Bool.Decides.{nat_tests}
-use Rattle.std.proofs.lemmas.List.{at_drop_all}
-use Rattle.text.specs.Numbers.{digits_on}
 use Rattle.text.proofs.Digits.{digit-step, beyond}
 use Rattle.text.proofs.numbers.digits.Goals as goal
-
-pub returns-then-byte-lt48 : goal.returns-then-byte-lt48
-returns-then-byte-lt48 c = let e = digit-step c.loop-byte.number c.args.text.now c.loop-byte.byte-index (omega arith) in grind (arith, nat_tests)
-
-pub loop-byte-preserved : goal.loop-byte-preserved
-loop-byte-preserved c = let e = digit-step c.loop-byte.number c.args.text.now c.loop-byte.byte-index (omega arith) in grind (arith, nat_tests)
-
-pub returns : goal.returns
-returns c = let e = at_drop_all (digits_on c.loop-byte.number) c.args.text.now c.loop-byte.byte-index (omega arith) in grind (arith, nat_tests)
 
 pub returns-then-number-gt-LARGEST : goal.returns-then-number-gt-LARGEST
 returns-then-number-gt-LARGEST c =

@@ -2,8 +2,5 @@ use Rattle.std.proofs.Common.{◌≡◌, ◌+◌, ◌≤◌, ◌++◌, map, leng
 use Rattle.ticket.specs.Tickets.{lines_of, told, readings}
 use Rattle.ticket.proofs.lines.read_ticket.Given as goal
 
-abbrev pub invariant-lines : goal.invariant-lines
-invariant-lines l = (map told (vec_items l.readings) ++ readings l.dialect l.line (lines_of l.rest) ≡ readings l.dialect 1 (lines_of l.text)) × (l.line + length l.rest ≤ 65537) × (vec_len l.readings + 1 ≡ l.line)
-
-abbrev pub decreases-lines : goal.decreases-lines
-decreases-lines l = length l.rest
+abbrev pub invariant-loop-line : goal.invariant-loop-line
+invariant-loop-line l = (map told (vec_items l.readings) ++ readings l.dialect (vec_len l.readings + 1) (lines_of l.line-iterator.rest.now) ≡ readings l.dialect 1 (lines_of l.text)) × (vec_len l.readings + length (lines_of l.line-iterator.rest.now) ≤ 65536)
