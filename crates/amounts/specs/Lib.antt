@@ -1,9 +1,6 @@
 -- The words with numbers: their relations and their narrowing.
-pub mod Fields
 pub mod Numbers
 pub mod Scales
 -- The proofs of their laws, which the words cite where they state them.
-pub mod Fitting
-pub mod Lifting
 pub mod NumberLaws
 pub mod ScaleLaws

@@ -1,10 +1,8 @@
-//! The words with numbers, each a propagator: count, weigh, sum and most.
+//! The words with numbers: count, weigh, sum and most.
 #![tactic(auto)]
 
 pub mod numbers;
-pub mod numeric;
 pub mod scales;
 
 pub use numbers::{Most, Sum};
-pub use numeric::Numeric;
 pub use scales::{Count, Weigh};

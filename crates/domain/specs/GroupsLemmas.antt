@@ -21,7 +21,7 @@ use Rattle.domain.specs.declared.bounds.GroupTell.{GroupTell}
 use Rattle.domain.specs.Laws.{Within, BoundsLaws, HeightLaws, HalvesLaws}
 use Rattle.domain.specs.Tells.{TellLaws}
 use Rattle.domain.specs.Groups.{GroupAllows, group_sample, group_inside, undecided, group_height, GroupPasses, group_if, group_of, group_meet, GroupBefore, group_first, group_second}
-use Rattle.domain.specs.Options.{none-some, some-is}
+use Rattle.std.proofs.lemmas.Option.{none-some, same_Some}
 
 -- the set of these places
 abbrev pub bales : ℕ → BaleSet
@@ -179,11 +179,11 @@ group-halves = record {
 -- ---- what a group is told
 
 of-some : (s p : ℕ) (b : Bool) (e : subset s p ≡ b) (g : Group) → group_if s p b e ≡ Some g → (g.sure.bits ≡ s) × (g.possible.bits ≡ p)
-of-some s p true e g f = (sym (ap (λ (x : Group). x.sure.bits) (some-is f)), sym (ap (λ (x : Group). x.possible.bits) (some-is f)))
-of-some s p false e g f = absurd (none-some f)
+of-some s p true e g f = (sym (ap (λ (x : Group). x.sure.bits) (same_Some _ _ f)), sym (ap (λ (x : Group). x.possible.bits) (same_Some _ _ f)))
+of-some s p false e g f = absurd (none-some _ f)
 
 of-none : (s p : ℕ) (b : Bool) (e : subset s p ≡ b) → group_if s p b e ≡ None → Sub s p → ⊥
-of-none s p true e f u = none-some (sym f)
+of-none s p true e f u = none-some _ (sym f)
 of-none s p false e f u = eqb-false _ _ e (of-sub s p u)
 
 to-some : (s p : ℕ) (b : Bool) (e : subset s p ≡ b) (g : Group) → g.sure.bits ≡ s → g.possible.bits ≡ p → Some g ≡ group_if s p b e

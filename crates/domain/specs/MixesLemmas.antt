@@ -8,7 +8,8 @@ use Rattle.domain.specs.declared.mixed.Either.TheVariants.{Left, Right}
 use Rattle.domain.specs.Laws.{Within, OneValue, BoundsLaws, HeightLaws, HalvesLaws}
 use Rattle.domain.specs.Tells.{TellLaws}
 use Rattle.domain.specs.Mixes.{MixAllows, mix_sample, mix_inside, mix_height, MixBefore, mix_half, MixPasses, mix_meet}
-use Rattle.domain.specs.Options.{none-some, some-is, onto-some, onto-none}
+use Rattle.std.proofs.lemmas.Option.{none-some, same_Some}
+use Rattle.domain.specs.Options.{onto-some, onto-none}
 
 left-is : {U V : Type 0} {u v : U} → ◌≡◌ {A = Either U V} (Left u) (Left v) → u ≡ v
 left-is e = cc
@@ -148,8 +149,8 @@ module _ {P U J : Type 0} {allows : P → U → Type 0} {passes : J → U → Ty
       let w = onto-some First (meet t a) q e in
       let h' : A (First w.0) v = subst (λ x. A x v) w.2 h in
       elim v as (λ x. A (First w.0) x → A (First a) x) [ Left u ↦ λ z. l.only t a w.0 w.1 u z | Right u ↦ λ z. z ] h'
-  only (Left t) (Second b) q e v h = subst (λ x. A x v) (sym (some-is e)) h
-  only (Right t) (First a) q e v h = subst (λ x. A x v) (sym (some-is e)) h
+  only (Left t) (Second b) q e v h = subst (λ x. A x v) (sym (same_Some _ _ e)) h
+  only (Right t) (First a) q e v h = subst (λ x. A x v) (sym (same_Some _ _ e)) h
   only (Right t) (Second b) q e v h =
       let w = onto-some Second (meet' t b) q e in
       let h' : A (Second w.0) v = subst (λ x. A x v) w.2 h in
@@ -160,10 +161,10 @@ module _ {P U J : Type 0} {allows : P → U → Type 0} {passes : J → U → Ty
       let w = onto-some First (meet t a) q e in
       let h' : A (First w.0) v = subst (λ x. A x v) w.2 h in
       elim v as (λ x. A (First w.0) x → F (Left t) x) [ Left u ↦ λ z. l.passed t a w.0 w.1 u z | Right u ↦ λ z. tt ] h'
-  passed (Left t) (Second b) q e (Left u) h = absurd (subst (λ x. A x (Left u)) (sym (some-is e)) h)
+  passed (Left t) (Second b) q e (Left u) h = absurd (subst (λ x. A x (Left u)) (sym (same_Some _ _ e)) h)
   passed (Left t) (Second b) q e (Right u) h = tt
   passed (Right t) (First a) q e (Left u) h = tt
-  passed (Right t) (First a) q e (Right u) h = absurd (subst (λ x. A x (Right u)) (sym (some-is e)) h)
+  passed (Right t) (First a) q e (Right u) h = absurd (subst (λ x. A x (Right u)) (sym (same_Some _ _ e)) h)
   passed (Right t) (Second b) q e v h =
       let w = onto-some Second (meet' t b) q e in
       let h' : A (Second w.0) v = subst (λ x. A x v) w.2 h in
@@ -174,8 +175,8 @@ module _ {P U J : Type 0} {allows : P → U → Type 0} {passes : J → U → Ty
       let w = onto-some First (meet t a) q e in
       subst (λ x. A x (Left u)) (sym w.2) (l.each t a w.0 w.1 u h f)
   each (Left t) (First a) q e (Right u) h f = absurd h
-  each (Left t) (Second b) q e v h f = subst (λ x. A x v) (some-is e) h
-  each (Right t) (First a) q e v h f = subst (λ x. A x v) (some-is e) h
+  each (Left t) (Second b) q e v h f = subst (λ x. A x v) (same_Some _ _ e) h
+  each (Right t) (First a) q e v h f = subst (λ x. A x v) (same_Some _ _ e) h
   each (Right t) (Second b) q e (Left u) h f = absurd h
   each (Right t) (Second b) q e (Right u) h f =
       let w = onto-some Second (meet' t b) q e in
@@ -184,8 +185,8 @@ module _ {P U J : Type 0} {allows : P → U → Type 0} {passes : J → U → Ty
   none : (t : Either J K) (p : Mixed P Q) → M t p ≡ None → (v : Either U V) → A p v → F t v → ⊥
   none (Left t) (First a) e (Left u) h f = l.none t a (onto-none First (meet t a) e) u h f
   none (Left t) (First a) e (Right u) h f = h
-  none (Left t) (Second b) e v h f = none-some (sym e)
-  none (Right t) (First a) e v h f = none-some (sym e)
+  none (Left t) (Second b) e v h f = none-some _ (sym e)
+  none (Right t) (First a) e v h f = none-some _ (sym e)
   none (Right t) (Second b) e (Left u) h f = h
   none (Right t) (Second b) e (Right u) h f = m.none t b (onto-none Second (meet' t b) e) u h f
 

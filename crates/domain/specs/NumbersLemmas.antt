@@ -11,7 +11,7 @@ use Rattle.domain.specs.declared.bounds.NumberTell.{NumberTell}
 use Rattle.domain.specs.Laws.{Within, BoundsLaws, HeightLaws, HalvesLaws}
 use Rattle.domain.specs.Tells.{TellLaws}
 use Rattle.domain.specs.Numbers.{NumberAllows, number_sample, number_inside, number_height, NumberPasses, number_if, number_of, number_meet, middle, number_first, number_second}
-use Rattle.domain.specs.Options.{none-some, some-is}
+use Rattle.std.proofs.lemmas.Option.{none-some, same_Some}
 
 pub number-eq : (p q : Number) → p.low ≡ q.low → p.high ≡ q.high → p ≡ q
 number-eq p q e f = λ i. record {
@@ -69,13 +69,13 @@ number-halves = record {
 
 if-some : (l e : ℕ) (h : e ≤ 1000001) (b : Bool) (f : nat_lt l e ≡ b) (n : Number) → number_if l e h b f ≡ Some n → (n.low ≡ l) × (n.high + 1 ≡ e)
 if-some l e h true f n g =
-    let x = ap (λ (z : Number). z.low) (some-is g) in
-    let y = ap (λ (z : Number). z.high) (some-is g) in
+    let x = ap (λ (z : Number). z.low) (same_Some _ _ g) in
+    let y = ap (λ (z : Number). z.high) (same_Some _ _ g) in
     let lt = ltb-true l e f in (sym x, omega arith)
-if-some l e h false f n g = absurd (none-some g)
+if-some l e h false f n g = absurd (none-some _ g)
 
 if-none : (l e : ℕ) (h : e ≤ 1000001) (b : Bool) (f : nat_lt l e ≡ b) → number_if l e h b f ≡ None → e ≤ l
-if-none l e h true f g = absurd (none-some (sym g))
+if-none l e h true f g = absurd (none-some _ (sym g))
 if-none l e h false f g = ltb-false l e f
 
 some-if : (l e : ℕ) (h : e ≤ 1000001) (b : Bool) (f : nat_lt l e ≡ b) (n : Number) → l < e → n.low ≡ l → n.high ≡ e - 1 → Some n ≡ number_if l e h b f

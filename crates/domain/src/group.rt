@@ -12,7 +12,8 @@ use places::PlaceSet;
 impl Group {
     /// The sets that have all of `sure` and none but `possible`; nothing where a sure bale is not possible.
     pub fn new(sure: PlaceSet, possible: PlaceSet) -> Option<Group>
-        ensures { elim result [ Some g ↦ (g.sure ≡ sure) × (g.possible ≡ possible) | None ↦ (Sub sure.bits possible.bits → ⊥) ] }
+        ensures cases { elim result [ Some g ↦ (g.sure ≡ sure) × (g.possible ≡ possible) | None ↦ (Sub sure.bits possible.bits → ⊥) ] }
+        ensures named { result ≡ group_of sure.bits possible.bits }
     {
         if sure.is_subset(possible) {
             Some(Group { sure, possible })
@@ -26,13 +27,6 @@ impl Group {
         ensures { result.bits ≡ undecided self }
     {
         self.possible.without(self.sure)
-    }
-
-    // The same as `new`, put as the definition has it.
-    fn of(sure: PlaceSet, possible: PlaceSet) -> Option<Group>
-        ensures { result ≡ group_of sure.bits possible.bits }
-    {
-        Group::new(sure, possible)
     }
 
     // The sets that have this bale, the lowest undecided one.
@@ -90,7 +84,7 @@ impl Domain for Group {
     }
 
     fn told(self, tell: GroupTell) -> Option<Self> {
-        Group::of(
+        Group::new(
             self.sure.union(tell.gain),
             self.possible.intersection(tell.keep),
         )

@@ -43,7 +43,7 @@ pub trait Domain: Copy {
         Self: Sized,
         ensures { result ≡ meet tell self };
 
-    /// Are they the same bounds?
+    /// Are they the same bounds? The laws say so without a bound `Eq`, which would ask more of each kind.
     fn same(self, other: Self) -> bool
     where
         Self: Sized,

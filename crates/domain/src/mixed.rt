@@ -59,14 +59,8 @@ impl<A: Domain, B: Domain> Domain for Mixed<A, B> {
     /// What is told to the other kind lets the bounds be.
     fn told(self, tell: Either<A::Tell, B::Tell>) -> Option<Self> {
         match (self, tell) {
-            (Mixed::First(a), Either::Left(t)) => match a.told(t) {
-                Some(q) => Some(Mixed::First(q)),
-                None => None,
-            },
-            (Mixed::Second(b), Either::Right(t)) => match b.told(t) {
-                Some(q) => Some(Mixed::Second(q)),
-                None => None,
-            },
+            (Mixed::First(a), Either::Left(t)) => Some(Mixed::First(a.told(t)?)),
+            (Mixed::Second(b), Either::Right(t)) => Some(Mixed::Second(b.told(t)?)),
             _ => Some(self),
         }
     }

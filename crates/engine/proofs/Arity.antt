@@ -1,6 +1,7 @@
 -- Propagators of one, two and three operands as propagators on lists of operands.
 use Rattle.std.proofs.Common.{◌≡◌, ℕ, ◌⊎◌, List, [], ◌∷◌, Some, None, Option, sym, ◌∙◌, subst, inl, inr, ⊎_elim}
-use Rattle.domain.specs.Options.{none-some, some-is, answered}
+use Rattle.std.proofs.lemmas.Option.{none-some, same_Some}
+use Rattle.domain.specs.Options.{answered}
 use Rattle.engine.specs.Rows.{Inside, Chosen, AllSingle}
 use Rattle.engine.specs.Parts.{PartLaws}
 use Rattle.engine.specs.Arity.{ThreeLaws, Two, TwoLaws, OneLaws}
@@ -95,12 +96,12 @@ module _ {C W L X U J Y V K : Type 0} {allows : C → W → Type 0} {height : C 
   two-monotone (p ∷ (o ∷ [])) (q ∷ (r ∷ [])) (v ∷ (w ∷ [])) i c h =
       ⊎_elim (λ n. let e = n.0 in rw e tt)
       (λ t. let (x', y', a, b, e, e', g, g', m, m') = t in
-      ⊎_elim (λ (n : (part p ≡ None) ⊎ (part' o ≡ None)). ⊎_elim (λ z. absurd (none-some (sym (one.none p v z c.0) ∙ g))) (λ z. absurd (none-some (sym (two.none o w z c.1.0) ∙ g'))) n)
+      ⊎_elim (λ (n : (part p ≡ None) ⊎ (part' o ≡ None)). ⊎_elim (λ z. absurd (none-some _ (sym (one.none p v z c.0) ∙ g))) (λ z. absurd (none-some _ (sym (two.none o w z c.1.0) ∙ g'))) n)
       (λ (s : (x : X) × (y : Y) × (part p ≡ Some x) × (part' o ≡ Some y)).
       let k = one.some p s.0 v s.2 c.0 in
       let l = two.some o s.1 w s.3 c.1.0 in
-      let k' : allows' s.0 a = subst (allows' s.0) (some-is (sym k.1 ∙ g)) k.2 in
-      let l' : allows'' s.1 b = subst (allows'' s.1) (some-is (sym l.1 ∙ g')) l.2 in
+      let k' : allows' s.0 a = subst (allows' s.0) (same_Some _ _ (sym k.1 ∙ g)) k.2 in
+      let l' : allows'' s.1 b = subst (allows'' s.1) (same_Some _ _ (sym l.1 ∙ g')) l.2 in
       over q r v w x' y' a b e e' g g' (laws.monotone s.0 s.1 x' y' a b (part-within one p q s.0 x' i.0 s.2 e) (part-within two o r s.1 y' i.1.0 s.3 e') k' l'
       (under p o v w s.0 s.1 a b s.2 s.3 g g' h)))
       (⊎_elim (λ z. inl (inl z)) (λ (s : (x : X) × (part p ≡ Some x)). ⊎_elim (λ z. inl (inr z)) (λ (u : (y : Y) × (part' o ≡ Some y)). inr (s.0, u.0, s.1, u.1)) (answered (part' o))) (answered (part p))))
@@ -152,12 +153,12 @@ module _ {C W L X U J : Type 0} {allows : C → W → Type 0} {height : C → �
       (λ (t : (y : X) × (part q ≡ Some y)).
       let et = t.1 in
       let b = one.some q t.0 v et (i.0 v c.0) in
-      ⊎_elim (λ n. absurd (none-some (sym (one.none p v n c.0) ∙ b.1)))
+      ⊎_elim (λ n. absurd (none-some _ (sym (one.none p v n c.0) ∙ b.1)))
       (λ (s : (x : X) × (part p ≡ Some x)).
       let es = s.1 in
       let a = one.some p s.0 v es c.0 in
       let k = rw es at h in
-      let m : allows' s.0 b.0 = subst (allows' s.0) (some-is (sym a.1 ∙ b.1)) a.2 in
+      let m : allows' s.0 b.0 = subst (allows' s.0) (same_Some _ _ (sym a.1 ∙ b.1)) a.2 in
       rw et (one.pass (f t.0) v b.0 b.1 (laws.monotone s.0 t.0 b.0 (part-within one p q s.0 t.0 i.0 es et) m (one.passed (f s.0) v b.0 b.1 k.0)), tt))
       (answered (part p)))
       (answered (part q))

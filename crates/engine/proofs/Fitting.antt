@@ -1,8 +1,9 @@
 -- Which field is first at fault, and what follows where none is.
-use Rattle.std.proofs.Common.{◌≡◌, ℕ, zero, suc, ◌+◌, ◌<◌, Bool, true, false, ◌||◌, eqb, List, [], ◌∷◌, ◌++◌, length, get_or, drop, Some, None, Option, sym, refl, ap, ◌∙◌, subst, arith, eqb-true}
-use Rattle.std.proofs.lemmas.List.{at_drop_more}
+use Rattle.std.proofs.Common.{◌≡◌, ℕ, zero, suc, ◌<◌, Bool, true, false, not, cond, ◌||◌, eqb, List, [], ◌∷◌, ◌++◌, length, Some, None, Option, sym, refl, ap, ◌∙◌, subst, arith, eqb-true}
+use Rattle.std.specs.List.{find}
+use Rattle.std.specs.Option.{MatchOption, option_or}
 use Rattle.domain.specs.Laws.{Within}
-use Rattle.domain.specs.Options.{none-some, some-is}
+use Rattle.std.proofs.lemmas.Option.{none-some, same_Some}
 use Rattle.engine.specs.declared.field.Field.{Field}
 use Rattle.engine.specs.declared.field.Misfit.{Misfit}
 use Rattle.engine.specs.declared.field.Reason.{Reason}
@@ -15,12 +16,46 @@ use Rattle.engine.proofs.Rows.{items-same, item-append, item-within}
 
 -- ---- which field is first
 
-module _ (r : Reason) (fs : List Field) (i : ℕ) (d : Field) (more : Option Misfit) (lt : i < length fs) where
-  pub faulty-here : stands r (get_or fs i d) ≡ false → first_at_fault r (drop i fs) more ≡ Some (record { reason = r; field = (get_or fs i d).number })
-  faulty-here e = at_drop_more (λ xs. first_at_fault r xs more) fs i d lt ∙ rw e
+-- the fault of the field, or what else there is
+abbrev pub fault_or : Reason → Option Field → Option Misfit → Option Misfit
+fault_or r None more = more
+fault_or r (Some f) more = Some (record { reason = r; field = f.number })
 
-  pub sound-here : stands r (get_or fs i d) ≡ true → first_at_fault r (drop i fs) more ≡ first_at_fault r (drop (i + 1) fs) more
-  sound-here e = at_drop_more (λ xs. first_at_fault r xs more) fs i d lt ∙ rw e
+pub found-first : (r : Reason) (fs : List Field) (more : Option Misfit) → first_at_fault r fs more ≡ fault_or r (find (λ f. not (stands r f)) fs) more
+found-first r [] more = refl
+found-first r (f ∷ fs) more =
+    elim (stands r f) as (λ b. unless b (record { reason = r; field = f.number }) (first_at_fault r fs more) ≡ fault_or r (cond (not b) (Some f) (find (λ f. not (stands r f)) fs)) more)
+    [ true ↦ found-first r fs more | false ↦ refl ]
+
+or-fault : (r : Reason) (o : Option Field) (more : Option Misfit) → fault_or r o more ≡ option_or (fault_or r o None) more
+or-fault r None more = refl
+or-fault r (Some f) more = refl
+
+-- faults of one reason before those of the others
+pub or-first : (r : Reason) (fs : List Field) (more : Option Misfit) → first_at_fault r fs more ≡ option_or (first_at_fault r fs None) more
+or-first r fs more =
+    let o = find (λ f. not (stands r f)) fs in
+    found-first r fs more ∙ or-fault r o more ∙ ap (λ m. option_or m more) (sym (found-first r fs None))
+
+-- what there is, or else what there is besides
+pub or-else : {X : Type 0} (o p r : Option X) → MatchOption o (r ≡ p) (λ x. r ≡ Some x) → r ≡ option_or o p
+or-else None p r m = m
+or-else (Some x) p r m = m
+
+or-or : {X : Type 0} (o p q : Option X) → option_or (option_or o p) q ≡ option_or o (option_or p q)
+or-or None p q = refl
+or-or (Some x) p q = refl
+
+-- the first fault of one reason, then of the next, and so on
+pub in-turn : (fs : List Field) → first_misfit fs
+    ≡ option_or (option_or (option_or (first_at_fault OutOfRange fs None) (first_at_fault NotDeclared fs None)) (first_at_fault WrongKind fs None)) (first_at_fault NotListed fs None)
+in-turn fs =
+    let o = first_at_fault OutOfRange fs None in
+    let d = first_at_fault NotDeclared fs None in
+    let k = first_at_fault WrongKind fs None in
+    let l = first_at_fault NotListed fs None in
+    or-first OutOfRange fs _ ∙ ap (option_or o) (or-first NotDeclared fs _ ∙ ap (option_or d) (or-first WrongKind fs l) ∙ sym (or-or d k l))
+    ∙ sym (or-or o (option_or d k) l) ∙ ap (λ x. option_or x l) (sym (or-or o d k))
 
 -- ---- nothing is at fault exactly where each field is free of each fault
 
@@ -31,7 +66,7 @@ AllStand r (f ∷ fs) = (stands r f ≡ true) × AllStand r fs
 
 unless-none : (b : Bool) (m : Misfit) (more : Option Misfit) → unless b m more ≡ None → (b ≡ true) × (more ≡ None)
 unless-none true m more e = (refl, e)
-unless-none false m more e = absurd (none-some (sym e))
+unless-none false m more e = absurd (none-some _ (sym e))
 
 none-faulty : (r : Reason) (fs : List Field) (more : Option Misfit) → first_at_fault r fs more ≡ None → AllStand r fs × (more ≡ None)
 none-faulty r [] more e = (tt, e)
@@ -140,9 +175,9 @@ module _ {C V : Type 0} (allows : C → V → Type 0) where
       ] refl n
 
   inside-moved : (P Q : List C) → Inside allows Q P → Moved P Q
-  inside-moved [] Q a i p e = absurd (none-some e)
+  inside-moved [] Q a i p e = absurd (none-some _ e)
   inside-moved (x ∷ xs) [] a i p e = absurd a
-  inside-moved (x ∷ xs) (y ∷ ys) a zero p e = (y, refl, λ v h. subst (λ z. allows z v) (some-is e) (a.0 v h))
+  inside-moved (x ∷ xs) (y ∷ ys) a zero p e = (y, refl, λ v h. subst (λ z. allows z v) (same_Some _ _ e) (a.0 v h))
   inside-moved (x ∷ xs) (y ∷ ys) a (suc i) p e = inside-moved xs ys a.1 i p e
 
   -- A FIT LASTS, for fields that name cells and fields that do not look at the row

@@ -2,7 +2,8 @@
 use Rattle.std.proofs.Common.{◌≡◌, ℕ, Bool, List, map, Some, None, Option, sym, ap, ◌∙◌, subst, ⊎_elim}
 use Rattle.domain.specs.Laws.{BoundsLaws, HeightLaws}
 use Rattle.domain.specs.Tells.{TellLaws}
-use Rattle.domain.specs.Options.{none-some, some-is, answered}
+use Rattle.std.proofs.lemmas.Option.{none-some, same_Some}
+use Rattle.domain.specs.Options.{answered}
 use Rattle.engine.specs.Rows.{Inside, Chosen, Single}
 use Rattle.engine.specs.Telling.{named}
 use Rattle.engine.proofs.Operands.{picked, row_narrowed, RowHolds, AllPass, OperandLaws}
@@ -20,7 +21,7 @@ module _ {C V K : Type 0} {allows : C → V → Type 0} {inside : C → C → Bo
   -- a choice of the new row is one of the old that gets through at the operands
   pub step-only : (P P' : List C) (vs : List V) → step P ≡ Some P' → Chosen allows P' vs → Chosen allows P vs
   step-only P P' vs e c =
-      ⊎_elim (λ n. subst (λ X. Chosen allows X vs) (sym (some-is (rw n at e))) c)
+      ⊎_elim (λ n. subst (λ X. Chosen allows X vs) (sym (same_Some _ _ (rw n at e))) c)
       (λ (t : (xs : List C) × (picked P names ≡ Some xs)). let m = t.1 in (all-only told names (tells t.0) P P' vs (rw m at e) c).0)
       (answered (picked P names))
 
@@ -30,7 +31,7 @@ module _ {C V K : Type 0} {allows : C → V → Type 0} {inside : C → C → Bo
   -- and each such choice is kept
   pub step-each : (P P' : List C) (vs : List V) → step P ≡ Some P' → Chosen allows P vs → ((xs : List C) (us : List V) → picked P names ≡ Some xs → picked vs names ≡ Some us → AllPass passes (tells xs) us) → Chosen allows P' vs
   step-each P P' vs e c h =
-      ⊎_elim (λ n. subst (λ X. Chosen allows X vs) (some-is (rw n at e)) c)
+      ⊎_elim (λ n. subst (λ X. Chosen allows X vs) (same_Some _ _ (rw n at e)) c)
       (λ (t : (xs : List C) × (picked P names ≡ Some xs)). let m = t.1 in
       let s = picked-chosen allows P vs names t.0 c m in
       all-each told names (tells t.0) P P' vs (rw m at e) c (row-pass passes vs names (tells t.0) s.0 s.1 (h t.0 s.0 m s.1)))
@@ -38,7 +39,7 @@ module _ {C V K : Type 0} {allows : C → V → Type 0} {inside : C → C → Bo
 
   pub step-none : (P : List C) (vs : List V) → step P ≡ None → Chosen allows P vs → ((xs : List C) (us : List V) → picked P names ≡ Some xs → picked vs names ≡ Some us → AllPass passes (tells xs) us) → ⊥
   step-none P vs e c h =
-      ⊎_elim (λ n. none-some (sym (rw n at e)))
+      ⊎_elim (λ n. none-some _ (sym (rw n at e)))
       (λ (t : (xs : List C) × (picked P names ≡ Some xs)). let m = t.1 in
       let s = picked-chosen allows P vs names t.0 c m in
       all-none told names (tells t.0) P vs (rw m at e) c (row-pass passes vs names (tells t.0) s.0 s.1 (h t.0 s.0 m s.1)))
@@ -48,10 +49,10 @@ module _ {C V K : Type 0} {allows : C → V → Type 0} {inside : C → C → Bo
   wider : (P Q P' : List C) (vs : List V) → Inside allows P Q → step P ≡ Some P' → Chosen allows P' vs → (ys : List C) (us : List V) → picked Q names ≡ Some ys → picked vs names ≡ Some us → AllPass passes (tells ys) us
   wider P Q P' vs a e c ys us f g =
       let d = step-only P P' vs e c in
-      ⊎_elim (λ n. absurd (none-some (sym (picked-past allows P vs names d n) ∙ g)))
+      ⊎_elim (λ n. absurd (none-some _ (sym (picked-past allows P vs names d n) ∙ g)))
       (λ (t : (xs : List C) × (picked P names ≡ Some xs)).
       let s = picked-chosen allows P vs names t.0 d t.1 in
-      let same : s.0 ≡ us = some-is (sym s.1 ∙ g) in
+      let same : s.0 ≡ us = same_Some _ _ (sym s.1 ∙ g) in
       operands.monotone t.0 ys us (picked-inside allows P Q names t.0 ys a t.1 f) (subst (λ ws. Chosen allows t.0 ws) same s.2) (step-passed P P' vs us t.0 e c t.1 g))
       (answered (picked P names))
 
@@ -79,7 +80,7 @@ module _ {C V K : Type 0} {allows : C → V → Type 0} {inside : C → C → Bo
   relation-passes : (P : List C) (vs : List V) → Chosen allows P vs → RowHolds holds names vs → (xs : List C) (us : List V) → picked P names ≡ Some xs → picked vs names ≡ Some us → AllPass passes (tells xs) us
   relation-passes P vs c m xs us e f =
       let s = picked-chosen allows P vs names xs c e in
-      let same : s.0 ≡ us = some-is (sym s.1 ∙ f) in
+      let same : s.0 ≡ us = same_Some _ _ (sym s.1 ∙ f) in
       operands.keeps xs us (subst (λ ws. Chosen allows xs ws) same s.2) (rw f at m)
 
   exact : (P P' : List C) (vs : List V) → Chosen allows P vs → Single height (named names) P → step P ≡ Some P' → RowHolds holds names vs
@@ -104,7 +105,7 @@ module _ {C V K : Type 0} {allows : C → V → Type 0} {inside : C → C → Bo
       let back_in : Inside allows P t.0 = chosen-inside allows bounds.some P t.0 (λ ws d. step-each P t.0 ws t.1 d (λ xs us e f.
       let a = picked-chosen allows P vs names xs c e in
       let b = picked-chosen allows P ws names xs d e in
-      let one : a.0 ≡ us = singles-one heights xs a.0 b.0 (picked-singles P names xs s e) a.2 b.2 ∙ some-is (sym b.1 ∙ f) in
+      let one : a.0 ≡ us = singles-one heights xs a.0 b.0 (picked-singles P names xs s e) a.2 b.2 ∙ same_Some _ _ (sym b.1 ∙ f) in
       subst (AllPass passes (tells xs)) one (relation-passes P vs c m xs a.0 e a.1))) in
       t.1 ∙ ap Some (rows-same bounds t.0 P (inside-old P t.0 t.1) back_in))
       (answered (step P))

@@ -1,7 +1,8 @@
 -- Propagators on one kind of cell, in rows of several kinds.
 use Rattle.std.proofs.Common.{◌≡◌, ℕ, List, [], ◌∷◌, map, Some, None, Option, sym, refl, ◌∙◌, subst, ⊎_elim}
 use Rattle.domain.specs.Laws.{Within}
-use Rattle.domain.specs.Options.{none-some, some-is, answered}
+use Rattle.std.proofs.lemmas.Option.{none-some, same_Some}
+use Rattle.domain.specs.Options.{answered}
 use Rattle.engine.specs.Rows.{Inside, Chosen, AllSingle}
 use Rattle.engine.proofs.Operands.{AllPass, OperandLaws, parts, part_tells, PartHolds}
 use Rattle.engine.specs.Parts.{PartLaws}
@@ -13,7 +14,7 @@ module _ {C V K X U J : Type 0} {allows : C → V → Type 0} {height : C → �
     {part : C → Option X} {kin : V → Option U} {value : U → V} {tell : J → K}
     (laws : PartLaws allows height passes allows' height' passes' part kin value tell) where
   parts-chosen : (ps : List C) (vs : List V) (xs : List X) → Chosen allows ps vs → parts part ps ≡ Some xs → (us : List U) × (parts kin vs ≡ Some us) × Chosen allows' xs us
-  parts-chosen [] [] xs c e = ([], refl, subst (λ ys. Chosen allows' ys []) (some-is e) tt)
+  parts-chosen [] [] xs c e = ([], refl, subst (λ ys. Chosen allows' ys []) (same_Some _ _ e) tt)
   parts-chosen [] (v ∷ vs) xs c e = absurd c
   parts-chosen (p ∷ ps) [] xs c e = absurd c
   parts-chosen (p ∷ ps) (v ∷ vs) xs c e =
@@ -25,7 +26,7 @@ module _ {C V K X U J : Type 0} {allows : C → V → Type 0} {height : C → �
       (a.0 ∷ b.0, rw (ea, eb), subst (λ ys. Chosen allows' ys (a.0 ∷ b.0)) (sym t.4) (a.2, b.2))
 
   parts-past : (ps : List C) (vs : List V) → Chosen allows ps vs → parts part ps ≡ None → parts kin vs ≡ None
-  parts-past [] vs c e = absurd (none-some (sym e))
+  parts-past [] vs c e = absurd (none-some _ (sym e))
   parts-past (p ∷ ps) [] c e = absurd c
   parts-past (p ∷ ps) (v ∷ vs) c e =
       ⊎_elim (λ n. let m = laws.none p v n c.0 in rw m)
@@ -34,17 +35,17 @@ module _ {C V K X U J : Type 0} {allows : C → V → Type 0} {height : C → �
       let a = laws.some p t.0 v it c.0 in
       let ea = a.1 in
       ⊎_elim (λ n. let m = parts-past ps vs c.1 n in rw (ea, m))
-      (λ (s : (xs : List X) × (parts part ps ≡ Some xs)). let is = s.1 in absurd (none-some (sym (rw (it, is) at e))))
+      (λ (s : (xs : List X) × (parts part ps ≡ Some xs)). let is = s.1 in absurd (none-some _ (sym (rw (it, is) at e))))
       (answered (parts part ps)))
       (answered (part p))
 
   pub part-within : (p q : C) (x y : X) → Within allows p q → part p ≡ Some x → part q ≡ Some y → Within allows' x y
   part-within p q x y w e f u a =
       let t = laws.some q y (value u) f (w (value u) (laws.whole p x u e a)) in
-      subst (allows' y) (some-is (sym t.1 ∙ laws.value-kin u)) t.2
+      subst (allows' y) (same_Some _ _ (sym t.1 ∙ laws.value-kin u)) t.2
 
   parts-inside : (ps qs : List C) (xs ys : List X) → Inside allows ps qs → parts part ps ≡ Some xs → parts part qs ≡ Some ys → Inside allows' xs ys
-  parts-inside [] [] xs ys a e f = subst (λ Z. Inside allows' Z ys) (some-is e) (subst (λ Z. Inside allows' [] Z) (some-is f) tt)
+  parts-inside [] [] xs ys a e f = subst (λ Z. Inside allows' Z ys) (same_Some _ _ e) (subst (λ Z. Inside allows' [] Z) (same_Some _ _ f) tt)
   parts-inside [] (q ∷ qs) xs ys a e f = absurd a
   parts-inside (p ∷ ps) [] xs ys a e f = absurd a
   parts-inside (p ∷ ps) (q ∷ qs) xs ys a e f =
@@ -54,7 +55,7 @@ module _ {C V K X U J : Type 0} {allows : C → V → Type 0} {height : C → �
       (part-within p q s.0 t.0 a.0 s.2 t.2, parts-inside ps qs s.1 t.1 a.1 s.3 t.3))
 
   parts-singles : (ps : List C) (xs : List X) → AllSingle height ps → parts part ps ≡ Some xs → AllSingle height' xs
-  parts-singles [] xs s e = subst (AllSingle height') (some-is e) tt
+  parts-singles [] xs s e = subst (AllSingle height') (same_Some _ _ e) tt
   parts-singles (p ∷ ps) xs s e =
       let t = both-some (part p) (parts part ps) xs e in
       subst (AllSingle height') (sym t.4) (laws.single p t.0 t.2 s.0, parts-singles ps t.1 s.1 t.3)
@@ -69,7 +70,7 @@ module _ {C V K X U J : Type 0} {allows : C → V → Type 0} {height : C → �
 
   map-pass : (js : List J) (vs : List V) (us : List U) → parts kin vs ≡ Some us → AllPass passes (map tell js) vs → AllPass passes' js us
   map-pass [] vs us e h = tt
-  map-pass (j ∷ js) [] us e h = subst (AllPass passes' (j ∷ js)) (some-is e) tt
+  map-pass (j ∷ js) [] us e h = subst (AllPass passes' (j ∷ js)) (same_Some _ _ e) tt
   map-pass (j ∷ js) (v ∷ vs) us e h =
       let t = both-some (kin v) (parts kin vs) us e in
       subst (AllPass passes' (j ∷ js)) (sym t.4) (laws.passed j v t.0 t.2 h.0, map-pass js vs t.1 t.3 h.1)
@@ -82,11 +83,11 @@ module _ {C V K X U J : Type 0} {allows : C → V → Type 0} {height : C → �
         (λ (t : (ys : List X) × (parts part qs ≡ Some ys)).
         let et = t.1 in
         let b = parts-chosen qs vs t.0 (inside-chosen allows ps qs vs a c) et in
-        ⊎_elim (λ n. absurd (none-some (sym (parts-past ps vs c n) ∙ b.1)))
+        ⊎_elim (λ n. absurd (none-some _ (sym (parts-past ps vs c n) ∙ b.1)))
         (λ (s : (xs : List X) × (parts part ps ≡ Some xs)).
         let es = s.1 in
         let d = parts-chosen ps vs s.0 c es in
-        let same : d.0 ≡ b.0 = some-is (sym d.1 ∙ b.1) in
+        let same : d.0 ≡ b.0 = same_Some _ _ (sym d.1 ∙ b.1) in
         rw et (pass-map (tells t.0) vs b.0 b.1 (operands.monotone s.0 t.0 b.0 (parts-inside ps qs s.0 t.0 a es et) (subst (Chosen allows' s.0) same d.2)
         (map-pass (tells s.0) vs b.0 b.1 (rw es at h)))))
         (answered (parts part ps)))

@@ -1,7 +1,7 @@
 -- Rows inside others, and their choices.
 use Rattle.std.proofs.Common.{◌≡◌, ℕ, zero, suc, ◌<◌, ◌≤◌, Bool, List, [], ◌∷◌, ◌++◌, map, length, get_or, set, Some, None, sym, refl, ap, arith}
 use Rattle.domain.specs.Laws.{BoundsLaws, HeightLaws}
-use Rattle.domain.specs.Options.{none-some, some-is}
+use Rattle.std.proofs.lemmas.Option.{none-some, same_Some}
 use Rattle.engine.specs.Rows.{item, Inside, Chosen, AllSingle}
 
 module _ {C V : Type 0} (allows : C → V → Type 0) where
@@ -61,13 +61,13 @@ module _ {X : Type 0} where
   item-gone (p ∷ ps) (suc i) h = item-gone ps i (omega arith)
 
   pub item-within : (P : List X) (i : ℕ) (x : X) → item P i ≡ Some x → i < length P
-  item-within [] i x e = absurd (none-some e)
+  item-within [] i x e = absurd (none-some _ e)
   item-within (p ∷ ps) zero x e = omega arith
   item-within (p ∷ ps) (suc i) x e = let h = item-within ps i x e in omega arith
 
   pub set-same : (P : List X) (i : ℕ) (x : X) → item P i ≡ Some x → set P i x ≡ P
-  set-same [] i x e = absurd (none-some e)
-  set-same (p ∷ ps) zero x e = ap (λ y. y ∷ ps) (sym (some-is e))
+  set-same [] i x e = absurd (none-some _ e)
+  set-same (p ∷ ps) zero x e = ap (λ y. y ∷ ps) (sym (same_Some _ _ e))
   set-same (p ∷ ps) (suc i) x e = ap (λ ys. p ∷ ys) (set-same ps i x e)
 
   pub set-past : (P : List X) (i : ℕ) (x : X) → length P ≤ i → set P i x ≡ P
@@ -76,7 +76,7 @@ module _ {X : Type 0} where
   set-past (p ∷ ps) (suc i) x h = ap (λ ys. p ∷ ys) (set-past ps i x (omega arith))
 
   pub item-set : (P : List X) (i : ℕ) (x y : X) → item P i ≡ Some x → item (set P i y) i ≡ Some y
-  item-set [] i x y e = absurd (none-some e)
+  item-set [] i x y e = absurd (none-some _ e)
   item-set (p ∷ ps) zero x y e = refl
   item-set (p ∷ ps) (suc i) x y e = item-set ps i x y e
 
@@ -93,6 +93,6 @@ module _ {X : Type 0} where
   -- rows with the same at each place are the same
   pub items-same : (P Q : List X) → ((i : ℕ) → item P i ≡ item Q i) → P ≡ Q
   items-same [] [] s = refl
-  items-same [] (q ∷ qs) s = absurd (none-some (s 0))
-  items-same (p ∷ ps) [] s = absurd (none-some (sym (s 0)))
-  items-same (p ∷ ps) (q ∷ qs) s = let h = some-is (s 0) in let t = items-same ps qs (λ i. s (suc i)) in cc
+  items-same [] (q ∷ qs) s = absurd (none-some _ (s 0))
+  items-same (p ∷ ps) [] s = absurd (none-some _ (sym (s 0)))
+  items-same (p ∷ ps) (q ∷ qs) s = let h = same_Some _ _ (s 0) in let t = items-same ps qs (λ i. s (suc i)) in cc

@@ -1,5 +1,6 @@
 -- Operands of one kind in rows of several kinds.
-use Rattle.std.specs.Prelude.{◌≡◌, ℕ, Bool, true, false, List, Some, None, Option}
+use Rattle.std.specs.Prelude.{◌≡◌, ℕ, Bool, List, Some, None, Option}
+use Rattle.std.specs.Option.{is_some}
 use Rattle.domain.specs.declared.mixed.Mixed.{Mixed}
 use Rattle.domain.specs.declared.mixed.Mixed.TheVariants.{First, Second}
 use Rattle.domain.specs.declared.mixed.Either.{Either}
@@ -10,10 +11,6 @@ use Rattle.engine.specs.Telling.{onward}
 -- what stands at place i, as of its kind; nothing where it is of another kind, or past the end
 abbrev pub operand : {C X : Type 0} → (C → Option X) → List C → ℕ → Option X
 operand part P i = onward (item P i) part
-
-abbrev pub is_some : {X : Type 0} → Option X → Bool
-is_some None = false
-is_some (Some x) = true
 
 -- is the cell of the kind?
 abbrev pub of_kind : {C X : Type 0} → (C → Option X) → C → Bool

@@ -20,8 +20,8 @@ pub struct Misfit {
     pub field: usize,
 }
 
-/// One field of a propagator as it stands to a row: its number, and which faults it is free of. A fault that a field of its sort cannot have,
-/// as a place that it is not declared, it is free of.
+/// One field of a propagator as it stands to a row: its number, and which faults it is free of, each a flag, since one fault is looked for in
+/// all fields before the next. A fault that a field of its sort cannot have, as a place that it is not declared, it is free of.
 #[derive(Clone, Copy)]
 pub struct Field {
     pub number: usize,

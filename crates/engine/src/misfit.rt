@@ -1,5 +1,7 @@
 //! What may keep a propagator from fitting a row.
-ghost use Rattle.std.specs.Prelude.{◌≡◌};
+ghost use Rattle.std.specs.Prelude.{◌≡◌, None, not};
+ghost use Rattle.std.specs.List.{find};
+ghost use Rattle.std.specs.Option.{option_map};
 ghost use Rattle.engine.specs.Fits.{stands, first_at_fault, first_misfit};
 
 use super::field::{Field, Misfit, Reason};
@@ -18,21 +20,19 @@ impl Field {
     }
 }
 
-// The first field at fault for this reason; what else there is, if none is.
-fn first_at_fault(fields: &[Field], reason: Reason, more: Option<Misfit>) -> Option<Misfit>
-    ensures { result ≡ first_at_fault reason fields.now more }
+// The first field that is not free of this fault.
+fn find_fault(fields: &[Field], reason: Reason) -> Option<&Field>
+    ensures { option_map (λ f. f.now) result ≡ find (λ f. not (stands reason f)) fields.now }
 {
-    let mut i = 0;
-    while i < fields.len() {
-        if !fields[i].stands(reason) {
-            return Some(Misfit {
-                reason,
-                field: fields[i].number,
-            });
-        }
-        i += 1;
-    }
-    more
+    fields.iter().find(|field| !field.stands(reason))
+}
+
+// What is at fault in the first field that is not free of this fault.
+fn first_at_fault(fields: &[Field], reason: Reason) -> Option<Misfit>
+    ensures { result ≡ first_at_fault reason fields.now None }
+{
+    let field = find_fault(fields, reason)?.number;
+    Some(Misfit { reason, field })
 }
 
 /// What is first at fault: numbers out of range before cells not declared, these before cells of the wrong kind, and those before places
@@ -40,8 +40,8 @@ fn first_at_fault(fields: &[Field], reason: Reason, more: Option<Misfit>) -> Opt
 pub fn first_misfit(fields: &[Field]) -> Option<Misfit>
     ensures { result ≡ first_misfit fields.now }
 {
-    let listed = first_at_fault(fields, Reason::NotListed, None);
-    let suited = first_at_fault(fields, Reason::WrongKind, listed);
-    let declared = first_at_fault(fields, Reason::NotDeclared, suited);
-    first_at_fault(fields, Reason::OutOfRange, declared)
+    first_at_fault(fields, Reason::OutOfRange)
+        .or_else(|| first_at_fault(fields, Reason::NotDeclared))
+        .or_else(|| first_at_fault(fields, Reason::WrongKind))
+        .or_else(|| first_at_fault(fields, Reason::NotListed))
 }

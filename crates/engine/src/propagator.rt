@@ -5,8 +5,8 @@ ghost use Rattle.engine.specs.Laws.{NarrowingLaws, RelationLaws};
 ghost use Rattle.engine.specs.Fires.{Fires};
 ghost use Rattle.engine.specs.Fits.{FitLaws, first_misfit};
 
+use super::contradiction::Contradiction;
 use super::field::Misfit;
-use super::fired::Fired;
 use domain::Domain;
 
 /// A propagator names cells of a row, has a relation over the row's values, and narrows the cells for it.
@@ -28,8 +28,8 @@ pub trait Propagator<C: Domain, B>: Copy {
     fn names_cell(&self, cell: usize) -> bool
         ensures { result ≡ names self.now cell };
 
-    /// Narrows the row. Where it meets a contradiction the row is left as it was.
-    fn narrow(&self, book: &B, row: &mut [C]) -> Fired
+    /// Narrows the row, and tells whether that changed it. Where it meets a contradiction the row is left as it was.
+    fn narrow(&self, book: &B, row: &mut [C]) -> Result<bool, Contradiction>
         ensures { Fires (narrowed book.now self.now row.old) row.old row.new result };
 
     /// What is first at fault where it does not fit the row, or nothing where it fits.

@@ -1,64 +1,42 @@
 //! Telling cells of a row what was worked out for them.
-ghost use Rattle.std.specs.Prelude.{◌≡◌, ◌<◌, ◌≤◌, [], ◌∷◌, length, Some, slice_set};
+ghost use Rattle.std.specs.Prelude.{◌≡◌, Ok, Some, map, slice_set};
 ghost use Rattle.engine.specs.Rows.{item};
-ghost use Rattle.engine.specs.Telling.{told_all, TogetherLaws};
-ghost use Rattle.engine.specs.Fires.{Fires, both_fired, restored, after_both};
+ghost use Rattle.engine.specs.Telling.{told_at, told_all, TogetherLaws};
+ghost use Rattle.engine.specs.Fires.{Fires, restored};
 
-use super::fired::Fired;
+use super::contradiction::Contradiction;
 use domain::Domain;
-
-// The bounds of a cell that is there.
-fn there<D: Domain>(row: &[D], cell: usize) -> D
-    requires { cell < length row.now }
-    ensures { Some result ≡ item row.now cell }
-{
-    row[cell]
-}
-
-// Nothing, where the row ends before the cell.
-fn beyond<D: Domain>(row: &[D], cell: usize) -> Option<D>
-    requires { length row.now ≤ cell }
-    ensures { result ≡ item row.now cell }
-{
-    None
-}
 
 /// The bounds of a cell of the row, or nothing where the row ends before it.
 pub fn cell_at<D: Domain>(row: &[D], cell: usize) -> Option<D>
     ensures { result ≡ item row.now cell }
 {
-    if cell < row.len() {
-        Some(there(row, cell))
-    } else {
-        beyond(row, cell)
-    }
+    row.get(cell).copied()
 }
 
 // Puts new bounds in the place of the old, unless they are the same.
-fn replace<D: Domain>(row: &mut [D], cell: usize, old: D, new: D) -> Fired
+fn replace<D: Domain>(row: &mut [D], cell: usize, old: D, new: D) -> bool
     requires { item row.old cell ≡ Some old }
-    ensures { Fires (Some (slice_set row.old cell new)) row.old row.new result }
+    ensures { Fires (Some (slice_set row.old cell new)) row.old row.new (Ok result) }
 {
     if old.same(new) {
-        return Fired::Same;
+        return false;
     }
     if cell < row.len() {
         row[cell] = new;
     }
-    Fired::Narrowed
+    true
 }
 
-/// Tells one cell of the row. A cell past the end is let be, and a contradiction leaves the row as it was.
-pub fn tell_one<D: Domain>(row: &mut [D], cell: usize, tell: D::Tell) -> Fired
-    ensures { Fires (told_all D.Domain.meet (cell ∷ []) (tell ∷ []) row.old) row.old row.new result }
+// Tells one cell of the row.
+fn tell_one<D: Domain>(row: &mut [D], cell: usize, tell: D::Tell) -> Result<bool, Contradiction>
+    ensures { Fires (told_at D.Domain.meet row.old cell tell) row.old row.new result }
 {
-    match cell_at(row, cell) {
-        None => Fired::Same,
-        Some(old) => match old.told(tell) {
-            None => Fired::Empty,
-            Some(new) => replace(row, cell, old, new),
-        },
-    }
+    let Some(old) = cell_at(row, cell) else {
+        return Ok(false);
+    };
+    let new = old.told(tell).ok_or(Contradiction)?;
+    Ok(replace(row, cell, old, new))
 }
 
 // Gives a cell its old bounds again, if there is such a cell.
@@ -72,63 +50,25 @@ fn restore<D: Domain>(row: &mut [D], cell: usize, old: Option<D>)
     }
 }
 
-// What comes of two firings; where the second contradicts, the cell that the first changed is restored.
-fn joined<D: Domain>(
+/// Tells cells of the row, each what is for it; a cell named more than once is told all that is for it. A cell past the end is let be, and a
+/// contradiction leaves the row as it was.
+pub fn tell_all<D: Domain>(
     row: &mut [D],
-    cell: usize,
-    old: Option<D>,
-    first: Fired,
-    second: Fired,
-) -> Fired
-    ensures answer { result ≡ both_fired first second }
-    ensures row { row.new ≡ after_both second row.old cell old }
+    tells: &[(usize, &D::Tell)],
+) -> Result<bool, Contradiction>
+    ensures { Fires (told_all D.Domain.meet (map (λ t. t.0) tells.now) (map (λ t. t.1.now) tells.now) row.old) row.old row.new result }
 {
-    match (first, second) {
-        (_, Fired::Empty) => {
+    let Some((first, others)) = tells.split_first() else {
+        return Ok(false);
+    };
+    let (cell, tell) = *first;
+    let old = cell_at(row, cell);
+    let changed = tell_one(row, cell, *tell)?;
+    match tell_all(row, others) {
+        Ok(more) => Ok(changed | more),
+        Err(contradiction) => {
             restore(row, cell, old);
-            Fired::Empty
-        }
-        (Fired::Same, _) => second,
-        (_, _) => first,
-    }
-}
-
-/// Tells two cells of the row, each what is for it; a cell named twice is told both. A cell past the end is let be, and a contradiction
-/// leaves the row as it was.
-pub fn tell_two<D: Domain>(row: &mut [D], a: usize, x: D::Tell, b: usize, y: D::Tell) -> Fired
-    ensures { Fires (told_all D.Domain.meet (a ∷ (b ∷ [])) (x ∷ (y ∷ [])) row.old) row.old row.new result }
-{
-    let old = cell_at(row, a);
-    let first = tell_one(row, a, x);
-    match first {
-        Fired::Empty => first,
-        _ => {
-            let second = tell_one(row, b, y);
-            joined(row, a, old, first, second)
-        }
-    }
-}
-
-/// Tells three cells of the row, each what is for it; a cell named more than once is told all that is for it. A cell past the end is let be,
-/// and a contradiction leaves the row as it was.
-pub fn tell_three<D: Domain>(
-    row: &mut [D],
-    a: usize,
-    x: D::Tell,
-    b: usize,
-    y: D::Tell,
-    c: usize,
-    z: D::Tell,
-) -> Fired
-    ensures { Fires (told_all D.Domain.meet (a ∷ (b ∷ (c ∷ []))) (x ∷ (y ∷ (z ∷ []))) row.old) row.old row.new result }
-{
-    let old = cell_at(row, a);
-    let first = tell_one(row, a, x);
-    match first {
-        Fired::Empty => Fired::Empty,
-        _ => {
-            let second = tell_two(row, b, y, c, z);
-            joined(row, a, old, first, second)
+            Err(contradiction)
         }
     }
 }

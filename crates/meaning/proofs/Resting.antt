@@ -2,7 +2,8 @@
 use Rattle.std.proofs.Common.{◌≡◌, ℕ, zero, suc, ◌<◌, ◌⊎◌, ◌↔◌, List, [], ◌∷◌, ◌++◌, Some, None, sym, refl, ap, ◌∙◌, subst, inl, inr, arith}
 use Rattle.domain.specs.declared.kind.Domain as Domain
 use Rattle.domain.specs.Counted.{In}
-use Rattle.domain.specs.Options.{none-some, some-is, answered}
+use Rattle.std.proofs.lemmas.Option.{none-some, same_Some}
+use Rattle.domain.specs.Options.{answered}
 use Rattle.engine.specs.declared.propagator.Propagator as Propagator
 use Rattle.engine.specs.Rows.{Inside, Chosen}
 use Rattle.engine.specs.Fits.{Fits}
@@ -97,13 +98,13 @@ module _ {C V T B R : Type 0} {kind : Domain.Ghosts C V T} {rule : Propagator.Gh
       pub held-narrowed : (row' : List C) → rule.narrowed book r row ≡ Some row' → Holding row'
       held-narrowed row' e = record {
         inside = inside-trans kind.allows row' row from ((l.narrowing r).inside row row' e) h.inside;
-        widest = λ P a f. let t = through P a f in subst (Inside kind.allows P) (some-is (sym t.1 ∙ e)) t.2;
+        widest = λ P a f. let t = through P a f in subst (Inside kind.allows P) (same_Some _ _ (sym t.1 ∙ e)) t.2;
         keeps = λ vs m. (l.relation r).keeps row row' vs (h.keeps vs m) (m.meets r i) e;
       }
 
       pub contradicted : rule.narrowed book r row ≡ None → Dead
       contradicted e = record {
-        none = λ P a f. let t = through P a f in none-some (sym e ∙ t.1);
+        none = λ P a f. let t = through P a f in none-some _ (sym e ∙ t.1);
         no-match = λ vs m. (l.relation r).possible row vs (h.keeps vs m) (m.meets r i) e;
       }
 

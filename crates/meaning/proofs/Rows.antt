@@ -2,7 +2,7 @@
 use Rattle.std.proofs.Common.{◌≡◌, ℕ, zero, suc, ◌+◌, ◌<◌, Bool, ◌⊎◌, List, [], ◌∷◌, ◌++◌, Some, sym, refl, ap, ◌∙◌, inl, inr, eq-zero-or-pos, arith}
 use Rattle.domain.specs.Laws.{Within, BoundsLaws, HeightLaws}
 use Rattle.domain.proofs.Narrowing.{falls}
-use Rattle.domain.specs.Options.{none-some, some-is}
+use Rattle.std.proofs.lemmas.Option.{none-some, same_Some}
 use Rattle.engine.specs.Rows.{item, Inside, AllSingle, Single}
 use Rattle.engine.proofs.Rows.{inside-self}
 use Rattle.meaning.specs.Search.{change, FirstOpen}
@@ -72,8 +72,8 @@ module _ {C : Type 0} (height : C → ℕ) where
   single-named names P s i p n e = at P s i e
     where
       at : (Q : List C) → AllSingle height Q → (j : ℕ) → item Q j ≡ Some p → height p ≡ 0
-      at [] s j e = absurd (none-some e)
-      at (q ∷ qs) s zero e = ap height (sym (some-is e)) ∙ s.0
+      at [] s j e = absurd (none-some _ e)
+      at (q ∷ qs) s zero e = ap height (sym (same_Some _ _ e)) ∙ s.0
       at (q ∷ qs) s (suc j) e = at qs s.1 j e
 
   -- the lowest open cell made lower

@@ -5,7 +5,7 @@ pub mod scales;
 pub mod set;
 
 /// A set of places from 1 to 64; the lowest bit stands for place 1.
-#[derive(Clone, Copy)]
+#[derive(Clone, Copy, PartialEq, Eq, Debug)]
 pub struct PlaceSet {
     bits: u64,
 }

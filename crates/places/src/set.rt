@@ -86,13 +86,6 @@ impl PlaceSet {
         self.bits & other.bits == self.bits
     }
 
-    /// Have both sets the same places?
-    pub fn same(self, other: PlaceSet) -> bool
-        ensures { result ≡ (self.bits == other.bits) }
-    {
-        self.bits == other.bits
-    }
-
     /// Has the set no place?
     pub fn is_empty(self) -> bool
         ensures { result ≡ (self.bits == none) }

@@ -24,26 +24,26 @@ Makes b s before after = narrowing_of b s before ≡ Some after
 
 pub record WorkedCases : Type 0 where
   -- sure 1, possible 1 to 4, is sub of sure 3, possible 1 to 3: possible 1 to 3; sure 1 and 3
-  pub within : (b : ClosedList) → Makes b (Sub (record { first = 0; second = 1 }))
+  pub within : (b : ClosedList) → Makes b (Sub (record { word = record {}; first = 0; second = 1 }))
       (group (one 1) (up_to 4) refl ∷ (group (one 3) (up_to 3) refl ∷ []))
       (group (one 1) (up_to 3) refl ∷ (group (union (one 1) (one 3)) (up_to 3) refl ∷ []))
   -- sure 1, possible 1 to 4, counts 1: single
-  pub counted : (b : ClosedList) → Makes b (Count (record { cell = 0; number = 1 }))
+  pub counted : (b : ClosedList) → Makes b (Count (record { word = record {}; first = 0; second = 1 }))
       (group (one 1) (up_to 4) refl ∷ (number 1 1 (lit≤ tt) (lit≤ tt) ∷ []))
       (group (one 1) (one 1) refl ∷ (number 1 1 (lit≤ tt) (lit≤ tt) ∷ []))
   -- of weights 4 and 3, sure 2, possible 1 and 2, weighs 0 to 100: 3 to 7
-  pub weighed : (b : ClosedList) → closed_weights b ≡ (4 ∷ (3 ∷ [])) → Makes b (Weigh (record { cell = 0; number = 1 }))
+  pub weighed : (b : ClosedList) → closed_weights b ≡ (4 ∷ (3 ∷ [])) → Makes b (Weigh (record { word = record {}; first = 0; second = 1 }))
       (group (one 2) (up_to 2) refl ∷ (number 0 100 (lit≤ tt) (lit≤ tt) ∷ []))
       (group (one 2) (up_to 2) refl ∷ (number 3 7 (lit≤ tt) (lit≤ tt) ∷ []))
   -- possible 1 and possible 2 unite to sure 2, possible 1 to 3: the second is sure of 2, and the third has possible 1 and 2
-  pub united : (b : ClosedList) → Makes b (Union (record { first = 0; second = 1; third = 2 }))
+  pub united : (b : ClosedList) → Makes b (Union (record { word = record {}; first = 0; second = 1; third = 2 }))
       (group none (one 1) refl ∷ (group none (one 2) refl ∷ (group (one 2) (up_to 3) refl ∷ [])))
       (group none (one 1) refl ∷ (group (one 2) (one 2) refl ∷ (group (one 2) (up_to 2) refl ∷ [])))
   -- possible 1, apart from itself: rests
-  pub apart-from-itself : (b : ClosedList) → Makes b (Apart (record { first = 0; second = 0 }))
+  pub apart-from-itself : (b : ClosedList) → Makes b (Apart (record { word = record {}; first = 0; second = 0 }))
       (group none (one 1) refl ∷ [])
       (group none (one 1) refl ∷ [])
   -- 0 to 5 and 2 to 3 sum to 4 to 6: the first is 1 to 4
-  pub summed : (b : ClosedList) → Makes b (Sum (record { first = 0; second = 1; third = 2 }))
+  pub summed : (b : ClosedList) → Makes b (Sum (record { word = record {}; first = 0; second = 1; third = 2 }))
       (number 0 5 (lit≤ tt) (lit≤ tt) ∷ (number 2 3 (lit≤ tt) (lit≤ tt) ∷ (number 4 6 (lit≤ tt) (lit≤ tt) ∷ [])))
       (number 1 4 (lit≤ tt) (lit≤ tt) ∷ (number 2 3 (lit≤ tt) (lit≤ tt) ∷ (number 4 6 (lit≤ tt) (lit≤ tt) ∷ [])))

@@ -4,10 +4,9 @@ use Rattle.domain.specs.declared.bounds.Number.{Number}
 use Rattle.domain.specs.Numbers.{number_meet}
 use Rattle.engine.specs.declared.field.Field.{Field}
 use Rattle.engine.specs.Arity.{two_narrowed, TwoHold, three_narrowed, ThreeHold}
-use Rattle.engine.specs.Fits.{cell_fields}
 use Rattle.statements.specs.declared.scale_statement.ScaleStatement.{ScaleStatement}
 use Rattle.statements.specs.declared.scale_statement.ScaleStatement.TheVariants.{Sum, Most}
-use Rattle.amounts.specs.Fields.{number_cell}
+use Rattle.words.specs.Fields.{two_fields, three_fields}
 use Rattle.amounts.specs.Numbers.{sum_tells, SumHolds, most_tells, MostHolds}
 
 -- the cells that it names
@@ -27,5 +26,5 @@ narrowing_of (Most w) = two_narrowed number_meet Some Some (λ t. t) (λ t. t) m
 
 -- its fields as they stand to a row
 abbrev pub fields_of : ScaleStatement → List Number → List Field
-fields_of (Sum w) = cell_fields (number_cell Some 3 w.first ∷ (number_cell Some 4 w.second ∷ (number_cell Some 5 w.third ∷ []))) []
-fields_of (Most w) = cell_fields (number_cell Some 3 w.first ∷ (number_cell Some 4 w.second ∷ [])) []
+fields_of (Sum w) = three_fields Some w.first w.second w.third
+fields_of (Most w) = two_fields Some Some w.first w.second

@@ -4,14 +4,13 @@ use Rattle.bales.specs.Lists.{closed_weights}
 use Rattle.bales.specs.declared.list.ClosedList.{ClosedList}
 use Rattle.domain.specs.declared.mixed.Either.TheVariants.{Right}
 use Rattle.engine.specs.declared.field.Field.{Field}
-use Rattle.engine.specs.Parts.{second_of, right_of}
+use Rattle.engine.specs.Parts.{first_of, second_of, right_of}
 use Rattle.engine.specs.Arity.{two_narrowed, TwoHold, three_narrowed, ThreeHold}
 use Rattle.engine.specs.Fits.{cell_fields}
 use Rattle.statements.specs.declared.statement.Statement.{Statement}
 use Rattle.statements.specs.declared.statement.Statement.TheVariants.{Sub, Same, Apart, Union, Both, Less, Has, Lacks, Count, Weigh, Sum, Most}
 use Rattle.words.specs.Cells.{Cell, Value, cell_meet}
-use Rattle.words.specs.Fields.{group_field, group_fields, place_field}
-use Rattle.amounts.specs.Fields.{number_cell, scale_fields}
+use Rattle.words.specs.Fields.{field_at, two_fields, three_fields, place_field}
 use Rattle.words.specs.Rows.{narrowed_one, HoldsOne, narrowed_two, HoldsTwo, narrowed_three, HoldsThree}
 use Rattle.words.specs.Pairs.{sub_tells, SubHolds, same_tells, SameHolds, apart_tells, ApartHolds}
 use Rattle.words.specs.Triples.{union_tells, UnionHolds, both_tells, BothHold, less_tells, LessHolds}
@@ -29,8 +28,8 @@ cells_of (Both w) = w.first ∷ (w.second ∷ (w.third ∷ []))
 cells_of (Less w) = w.first ∷ (w.second ∷ (w.third ∷ []))
 cells_of (Has w) = w.cell ∷ []
 cells_of (Lacks w) = w.cell ∷ []
-cells_of (Count w) = w.cell ∷ (w.number ∷ [])
-cells_of (Weigh w) = w.cell ∷ (w.number ∷ [])
+cells_of (Count w) = w.first ∷ (w.second ∷ [])
+cells_of (Weigh w) = w.first ∷ (w.second ∷ [])
 cells_of (Sum w) = w.first ∷ (w.second ∷ (w.third ∷ []))
 cells_of (Most w) = w.first ∷ (w.second ∷ [])
 
@@ -44,8 +43,8 @@ RelationOf b (Both w) = HoldsThree BothHold w.first w.second w.third
 RelationOf b (Less w) = HoldsThree LessHolds w.first w.second w.third
 RelationOf b (Has w) = HoldsOne (HasHolds w.place) w.cell
 RelationOf b (Lacks w) = HoldsOne (LacksHolds w.place) w.cell
-RelationOf b (Count w) = HoldsScales CountHolds w.cell w.number
-RelationOf b (Weigh w) = HoldsScales (WeighHolds (closed_weights b)) w.cell w.number
+RelationOf b (Count w) = HoldsScales CountHolds w.first w.second
+RelationOf b (Weigh w) = HoldsScales (WeighHolds (closed_weights b)) w.first w.second
 RelationOf b (Sum w) = ThreeHold right_of SumHolds w.first w.second w.third
 RelationOf b (Most w) = TwoHold right_of right_of MostHolds w.first w.second
 
@@ -59,22 +58,22 @@ narrowing_of b (Both w) = narrowed_three both_tells w.first w.second w.third
 narrowing_of b (Less w) = narrowed_three less_tells w.first w.second w.third
 narrowing_of b (Has w) = narrowed_one (has_tells w.place) w.cell
 narrowing_of b (Lacks w) = narrowed_one (lacks_tells w.place) w.cell
-narrowing_of b (Count w) = narrowed_scales count_tells w.cell w.number
-narrowing_of b (Weigh w) = narrowed_scales (weigh_tells (closed_weights b)) w.cell w.number
+narrowing_of b (Count w) = narrowed_scales count_tells w.first w.second
+narrowing_of b (Weigh w) = narrowed_scales (weigh_tells (closed_weights b)) w.first w.second
 narrowing_of b (Sum w) = three_narrowed cell_meet second_of Right sum_tells w.first w.second w.third
 narrowing_of b (Most w) = two_narrowed cell_meet second_of second_of Right Right most_tells w.first w.second
 
 -- its fields as they stand to a row
 abbrev pub fields_of : ClosedList → Statement → List Cell → List Field
-fields_of b (Sub w) = group_fields 3 (w.first ∷ (w.second ∷ []))
-fields_of b (Same w) = group_fields 3 (w.first ∷ (w.second ∷ []))
-fields_of b (Apart w) = group_fields 3 (w.first ∷ (w.second ∷ []))
-fields_of b (Union w) = group_fields 3 (w.first ∷ (w.second ∷ (w.third ∷ [])))
-fields_of b (Both w) = group_fields 3 (w.first ∷ (w.second ∷ (w.third ∷ [])))
-fields_of b (Less w) = group_fields 3 (w.first ∷ (w.second ∷ (w.third ∷ [])))
-fields_of b (Has w) = λ P. group_field 3 w.cell P ∷ (place_field 4 w.place b ∷ [])
-fields_of b (Lacks w) = λ P. group_field 3 w.cell P ∷ (place_field 4 w.place b ∷ [])
-fields_of b (Count w) = scale_fields w.cell w.number
-fields_of b (Weigh w) = scale_fields w.cell w.number
-fields_of b (Sum w) = cell_fields (number_cell second_of 3 w.first ∷ (number_cell second_of 4 w.second ∷ (number_cell second_of 5 w.third ∷ []))) []
-fields_of b (Most w) = cell_fields (number_cell second_of 3 w.first ∷ (number_cell second_of 4 w.second ∷ [])) []
+fields_of b (Sub w) = two_fields first_of first_of w.first w.second
+fields_of b (Same w) = two_fields first_of first_of w.first w.second
+fields_of b (Apart w) = two_fields first_of first_of w.first w.second
+fields_of b (Union w) = three_fields first_of w.first w.second w.third
+fields_of b (Both w) = three_fields first_of w.first w.second w.third
+fields_of b (Less w) = three_fields first_of w.first w.second w.third
+fields_of b (Has w) = cell_fields (field_at first_of 3 w.cell ∷ []) (place_field 4 w.place b ∷ [])
+fields_of b (Lacks w) = cell_fields (field_at first_of 3 w.cell ∷ []) (place_field 4 w.place b ∷ [])
+fields_of b (Count w) = two_fields first_of second_of w.first w.second
+fields_of b (Weigh w) = two_fields first_of second_of w.first w.second
+fields_of b (Sum w) = three_fields second_of w.first w.second w.third
+fields_of b (Most w) = two_fields second_of second_of w.first w.second

@@ -1,25 +1,23 @@
 //! The statements of the scale sheet, whose cells are numbers alone.
 ghost use Rattle.engine.specs.Telling.{named};
-ghost use Rattle.statements.specs.ScaleStatements.{cells_of, RelationOf, narrowing_of, fields_of};
-ghost use Rattle.domain.specs.NumbersLemmas.{number-bounds, number-heights, number-tells};
 ghost use Rattle.engine.proofs.Lifted.{two-narrowing, three-narrowing, two-relation, three-relation};
-ghost use Rattle.statements.specs.declared.scale_statement.ScaleStatement.TheVariants.{Sum, Most};
+ghost use Rattle.domain.specs.NumbersLemmas.{number-bounds, number-heights, number-tells};
+ghost use Rattle.words.specs.Fitting.{two-fit, three-fit};
 ghost use Rattle.amounts.specs.NumberLaws.{sum-laws, most-laws};
-ghost use Rattle.statements.specs.ScaleStatementLaws.{alone, last};
-ghost use Rattle.std.specs.Prelude.{[], ◌∷◌, Some};
-ghost use Rattle.domain.specs.Numbers.{NumberAllows};
-ghost use Rattle.engine.proofs.Fitting.{cells-fit};
-ghost use Rattle.amounts.specs.Fields.{number_cell};
+ghost use Rattle.statements.specs.ScaleStatementLaws.{alone};
+ghost use Rattle.statements.specs.ScaleStatements.{cells_of, RelationOf, narrowing_of, fields_of};
+ghost use Rattle.statements.specs.declared.scale_statement.ScaleStatement.TheVariants.{Sum, Most};
 
-use amounts::numbers::{Most, Sum};
+use amounts::numbers;
 use domain::Number;
-use engine::{Fired, Misfit, Propagator};
+use engine::{Contradiction, Misfit, Propagator};
+use words::{Pair, Triple};
 
 /// A statement of the scale sheet.
 #[derive(Clone, Copy)]
 pub enum ScaleStatement {
-    Sum(Sum),
-    Most(Most),
+    Sum(Triple<numbers::Sum>),
+    Most(Pair<numbers::Most>),
 }
 
 impl<B> Propagator<Number, B> for ScaleStatement {
@@ -45,18 +43,19 @@ impl<B> Propagator<Number, B> for ScaleStatement {
 
     ghost fitting = { λ b.
         elim [
-          | Sum w ↦ cells-fit NumberAllows (number_cell Some 3 w.first ∷ (number_cell Some 4 w.second ∷ (number_cell Some 5 w.third ∷ []))) [] (last, (last, (last, tt)))
-          | Most w ↦ cells-fit NumberAllows (number_cell Some 3 w.first ∷ (number_cell Some 4 w.second ∷ [])) [] (last, (last, tt))
+          | Sum w ↦ three-fit number-bounds alone w.first w.second w.third
+          | Most w ↦ two-fit number-bounds alone alone w.first w.second
         ] };
 
+    // two arms each: a macro as for `Statement` is no plainer
     fn names_cell(&self, cell: usize) -> bool {
         match *self {
-            ScaleStatement::Sum(word) => <Sum as Propagator<Number, B>>::names_cell(&word, cell),
-            ScaleStatement::Most(word) => <Most as Propagator<Number, B>>::names_cell(&word, cell),
+            ScaleStatement::Sum(word) => Propagator::<Number, B>::names_cell(&word, cell),
+            ScaleStatement::Most(word) => Propagator::<Number, B>::names_cell(&word, cell),
         }
     }
 
-    fn narrow(&self, book: &B, row: &mut [Number]) -> Fired {
+    fn narrow(&self, book: &B, row: &mut [Number]) -> Result<bool, Contradiction> {
         match *self {
             ScaleStatement::Sum(word) => word.narrow(book, row),
             ScaleStatement::Most(word) => word.narrow(book, row),

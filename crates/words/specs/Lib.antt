@@ -9,9 +9,9 @@ pub mod Members
 -- The proofs of their laws, which the words cite where they state them.
 pub mod CellsLemmas
 pub mod Fitting
+pub mod GroupFields
 pub mod Places
 pub mod Carrying
-pub mod Lifting
 pub mod PairLaws
 pub mod TripleLaws
 pub mod MemberLaws

@@ -1,192 +1,77 @@
 //! The words over two groups: sub, same and apart.
-ghost use Rattle.std.specs.Prelude.{◌≡◌, [], ◌∷◌};
-ghost use Rattle.engine.specs.Telling.{named};
-ghost use Rattle.words.specs.Rows.{narrowed_two, HoldsTwo};
-ghost use Rattle.words.specs.Fields.{group_fields};
 ghost use Rattle.words.specs.Pairs.{sub_tells, SubHolds, same_tells, SameHolds, apart_tells, ApartHolds};
-ghost use Rattle.words.specs.Lifting.{narrowing-two, relation-two};
 ghost use Rattle.words.specs.PairLaws.{sub-laws, same-laws, apart-laws};
-ghost use Rattle.words.specs.Fitting.{fit-laws};
 
-use super::cell::{Cell, group_field, told, two_groups_at};
-use bales::ClosedList;
-use domain::{Either, Group, GroupTell};
-use engine::{Fired, Misfit, Propagator, first_misfit, tell_two};
+use super::cell::told;
+use super::pair::Binary;
+use domain::{Group, GroupTell};
 use places::PlaceSet;
 
 /// The first group lies within the second.
 #[derive(Clone, Copy)]
-pub struct Sub {
-    pub first: usize,
-    pub second: usize,
-}
+pub struct Sub;
 
 /// Both groups are the same.
 #[derive(Clone, Copy)]
-pub struct Same {
-    pub first: usize,
-    pub second: usize,
-}
+pub struct Same;
 
 /// No bale is in both groups.
 #[derive(Clone, Copy)]
-pub struct Apart {
-    pub first: usize,
-    pub second: usize,
-}
+pub struct Apart;
 
-// What sub tells its groups.
-fn sub_tells(a: Group, b: Group) -> (GroupTell, GroupTell)
-    ensures { result ≡ sub_tells a b }
-{
-    (
-        told(PlaceSet::empty(), b.possible),
-        told(a.sure, b.possible),
-    )
-}
+impl<B> Binary<B> for Sub {
+    type First = Group;
 
-impl Propagator<Cell, ClosedList> for Sub {
-    ghost names = { λ w. named (w.first ∷ (w.second ∷ [])) };
+    type Second = Group;
 
-    ghost holds = { λ b w. HoldsTwo SubHolds w.first w.second };
+    ghost holds = { λ b. SubHolds };
 
-    ghost narrowed = { λ b w. narrowed_two sub_tells w.first w.second };
+    ghost tells = { λ b. sub_tells };
 
-    ghost fields = { λ b w. group_fields 3 (w.first ∷ (w.second ∷ [])) };
+    ghost laws = { λ b. sub-laws };
 
-    ghost narrowing = { λ b w. narrowing-two sub-laws w.first w.second };
-
-    ghost relation = { λ b w. relation-two sub-laws w.first w.second };
-
-    ghost fitting = { λ b w. fit-laws [] 3 (w.first ∷ (w.second ∷ [])) };
-
-    fn names_cell(&self, cell: usize) -> bool {
-        self.first == cell || self.second == cell
-    }
-
-    fn narrow(&self, _book: &ClosedList, row: &mut [Cell]) -> Fired {
-        match two_groups_at(row, self.first, self.second) {
-            None => Fired::Same,
-            Some(groups) => {
-                let tells = sub_tells(groups.0, groups.1);
-                tell_two(
-                    row,
-                    self.first,
-                    Either::Left(tells.0),
-                    self.second,
-                    Either::Left(tells.1),
-                )
-            }
-        }
-    }
-
-    fn find_misfit(&self, _book: &ClosedList, row: &[Cell]) -> Option<Misfit> {
-        first_misfit(&[
-            group_field(3, self.first, row),
-            group_field(4, self.second, row),
-        ])
+    fn tells(_: &B, inner: Group, outer: Group) -> (GroupTell, GroupTell) {
+        (
+            told(PlaceSet::empty(), outer.possible),
+            told(inner.sure, outer.possible),
+        )
     }
 }
 
-// What same tells its groups.
-fn same_tells(a: Group, b: Group) -> (GroupTell, GroupTell)
-    ensures { result ≡ same_tells a b }
-{
-    (told(b.sure, b.possible), told(a.sure, a.possible))
-}
+impl<B> Binary<B> for Same {
+    type First = Group;
 
-impl Propagator<Cell, ClosedList> for Same {
-    ghost names = { λ w. named (w.first ∷ (w.second ∷ [])) };
+    type Second = Group;
 
-    ghost holds = { λ b w. HoldsTwo SameHolds w.first w.second };
+    ghost holds = { λ b. SameHolds };
 
-    ghost narrowed = { λ b w. narrowed_two same_tells w.first w.second };
+    ghost tells = { λ b. same_tells };
 
-    ghost fields = { λ b w. group_fields 3 (w.first ∷ (w.second ∷ [])) };
+    ghost laws = { λ b. same-laws };
 
-    ghost narrowing = { λ b w. narrowing-two same-laws w.first w.second };
-
-    ghost relation = { λ b w. relation-two same-laws w.first w.second };
-
-    ghost fitting = { λ b w. fit-laws [] 3 (w.first ∷ (w.second ∷ [])) };
-
-    fn names_cell(&self, cell: usize) -> bool {
-        self.first == cell || self.second == cell
-    }
-
-    fn narrow(&self, _book: &ClosedList, row: &mut [Cell]) -> Fired {
-        match two_groups_at(row, self.first, self.second) {
-            None => Fired::Same,
-            Some(groups) => {
-                let tells = same_tells(groups.0, groups.1);
-                tell_two(
-                    row,
-                    self.first,
-                    Either::Left(tells.0),
-                    self.second,
-                    Either::Left(tells.1),
-                )
-            }
-        }
-    }
-
-    fn find_misfit(&self, _book: &ClosedList, row: &[Cell]) -> Option<Misfit> {
-        first_misfit(&[
-            group_field(3, self.first, row),
-            group_field(4, self.second, row),
-        ])
+    fn tells(_: &B, one: Group, other: Group) -> (GroupTell, GroupTell) {
+        (
+            told(other.sure, other.possible),
+            told(one.sure, one.possible),
+        )
     }
 }
 
-// What apart tells its groups.
-fn apart_tells(a: Group, b: Group) -> (GroupTell, GroupTell)
-    ensures { result ≡ apart_tells a b }
-{
-    (
-        told(PlaceSet::empty(), a.possible.without(b.sure)),
-        told(PlaceSet::empty(), b.possible.without(a.sure)),
-    )
-}
+impl<B> Binary<B> for Apart {
+    type First = Group;
 
-impl Propagator<Cell, ClosedList> for Apart {
-    ghost names = { λ w. named (w.first ∷ (w.second ∷ [])) };
+    type Second = Group;
 
-    ghost holds = { λ b w. HoldsTwo ApartHolds w.first w.second };
+    ghost holds = { λ b. ApartHolds };
 
-    ghost narrowed = { λ b w. narrowed_two apart_tells w.first w.second };
+    ghost tells = { λ b. apart_tells };
 
-    ghost fields = { λ b w. group_fields 3 (w.first ∷ (w.second ∷ [])) };
+    ghost laws = { λ b. apart-laws };
 
-    ghost narrowing = { λ b w. narrowing-two apart-laws w.first w.second };
-
-    ghost relation = { λ b w. relation-two apart-laws w.first w.second };
-
-    ghost fitting = { λ b w. fit-laws [] 3 (w.first ∷ (w.second ∷ [])) };
-
-    fn names_cell(&self, cell: usize) -> bool {
-        self.first == cell || self.second == cell
-    }
-
-    fn narrow(&self, _book: &ClosedList, row: &mut [Cell]) -> Fired {
-        match two_groups_at(row, self.first, self.second) {
-            None => Fired::Same,
-            Some(groups) => {
-                let tells = apart_tells(groups.0, groups.1);
-                tell_two(
-                    row,
-                    self.first,
-                    Either::Left(tells.0),
-                    self.second,
-                    Either::Left(tells.1),
-                )
-            }
-        }
-    }
-
-    fn find_misfit(&self, _book: &ClosedList, row: &[Cell]) -> Option<Misfit> {
-        first_misfit(&[
-            group_field(3, self.first, row),
-            group_field(4, self.second, row),
-        ])
+    fn tells(_: &B, a: Group, b: Group) -> (GroupTell, GroupTell) {
+        (
+            told(PlaceSet::empty(), a.possible.without(b.sure)),
+            told(PlaceSet::empty(), b.possible.without(a.sure)),
+        )
     }
 }

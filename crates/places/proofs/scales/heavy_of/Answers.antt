@@ -1,16 +1,9 @@
 -- A turn decides the lowest place.
-use borrow.Author.Numbers.{trailing_lt}
-use Rattle.std.proofs.Common.{◌+◌, ◌-◌, ltb, sym, refl, ap, ◌∙◌, arith, le-ltb, lt-ltb}
+use Rattle.std.proofs.Common.{◌+◌, ◌-◌, ltb, sym, ap, ◌∙◌, arith, le-ltb, lt-ltb}
 use lib.Bits.{bit_or, or_zero_r, and_le_r}
 use Rattle.places.specs.Sums.{sieve}
 use Rattle.places.proofs.Sums.{sieve-none, sieve-pass, sieve-fail}
 use Rattle.places.proofs.scales.heavy_of.Goals as goal
-
-pub loop-rest-init : goal.loop-rest-init
-loop-rest-init c = (refl, omega arith)
-
-pub bounds-weights-rest : goal.bounds-weights-rest
-bounds-weights-rest c = trailing_lt 64 c.loop-rest.rest (omega arith) (omega arith)
 
 pub loop-rest-preserved-then-high-sure : goal.loop-rest-preserved-then-high-sure
 loop-rest-preserved-then-high-sure c = (

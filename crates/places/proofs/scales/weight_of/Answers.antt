@@ -1,18 +1,11 @@
 -- A turn moves the weight of the lowest place into the sum.
-use Rattle.std.proofs.Common.{◌≡◌, ◌+◌, ◌-◌, ◌≤◌, get_or, ap, zero-add, arith, rules}
-use borrow.Author.Numbers.{trailing_lt}
+use Rattle.std.proofs.Common.{◌≡◌, ◌+◌, ◌-◌, ◌≤◌, get_or, ap, arith, rules}
 use lib.Bits.{bit_and, and_le_r}
-use lib.Count.{ones, ones-le, count_trailing_zeros}
+use lib.Count.{ones, count_trailing_zeros}
 use Rattle.places.specs.Sums.{weigh}
 use Rattle.places.proofs.Sums.{weigh-none, weigh-clear}
 use Rattle.places.proofs.Counts.{ones-clear}
 use Rattle.places.proofs.scales.weight_of.Goals as goal
-
-pub loop-rest-init : goal.loop-rest-init
-loop-rest-init c = (zero-add _, omega (arith, ones-le 64 c.args.set (omega arith)), omega arith)
-
-pub bounds-weights-rest : goal.bounds-weights-rest
-bounds-weights-rest c = trailing_lt 64 c.loop-rest.rest (omega arith) (omega arith)
 
 module _ (c : goal.After-sum-1) where
   here : get_or c.args.weights.now (count_trailing_zeros 64 c.loop-rest.rest) 0 ≤ 65535
@@ -20,9 +13,6 @@ module _ (c : goal.After-sum-1) where
 
   counted : 1 + ones (bit_and c.loop-rest.rest (c.loop-rest.rest - 1)) ≡ ones c.loop-rest.rest
   counted = ones-clear 64 c.loop-rest.rest (omega arith) (omega arith)
-
-pub overflow_add-sum : goal.overflow_add-sum
-overflow_add-sum c = let h = here c in let o = counted c in omega arith
 
 pub loop-rest-preserved : goal.loop-rest-preserved
 loop-rest-preserved c = (

@@ -1,8 +1,7 @@
 -- The second half is sound, and it is the one defined.
-use Rattle.std.proofs.Common.{◌≡◌, sym, refl, ap, ◌∙◌, subst}
+use Rattle.std.proofs.Common.{◌≡◌, sym, ap, ◌∙◌, subst}
 use Rattle.places.specs.Members.{minus, intersection}
 use Rattle.domain.specs.Groups.{group_second}
-use Rattle.domain.specs.GroupsLemmas.{group-eq}
 use Rattle.domain.proofs.bounds.Group.without_lowest.Goals as goal
 
 pub invariant_of-result : goal.invariant_of-result
@@ -10,6 +9,3 @@ invariant_of-result c = record {
   ok = subst (λ n. intersection c.args.self.sure.bits n ≡ c.args.self.sure.bits) (sym (c.without.ensures ∙ ap (minus c.args.self.possible.bits) c.requires))
       (group_second c.args.self).ok;
 }
-
-pub returns : goal.returns
-returns c = group-eq _ _ refl (c.without.ensures ∙ ap (minus c.args.self.possible.bits) c.requires)
