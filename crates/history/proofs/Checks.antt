@@ -4,7 +4,7 @@ use Rattle.std.proofs.lemmas.Bool.{not-false, and_parts, leb-true, leb-false, lt
 use Rattle.fault.specs.declared.Fault.{Fault}
 use Rattle.fault.specs.declared.Refusal.TheVariants as Refusals
 use Rattle.fault.specs.Refusals.{fault_of}
-use Rattle.domain.specs.Options.{none-some}
+use Rattle.std.proofs.lemmas.Option.{none-some}
 use Rattle.engine.specs.declared.field.Field.{Field}
 use Rattle.engine.specs.declared.field.Misfit.{Misfit}
 use Rattle.engine.specs.declared.field.Reason.{Reason}
@@ -17,21 +17,21 @@ use Rattle.history.specs.Denials.{refuse_if, or_else, is_cell, unranged_fault, b
 -- ---- one check after another
 
 test-passed : (x : Bool) (f : Fault) (more : Option Fault) → refuse_if x f more ≡ None → (x ≡ false) × (more ≡ None)
-test-passed true f more e = absurd (none-some (sym e))
+test-passed true f more e = absurd (none-some _ (sym e))
 test-passed false f more e = (refl, e)
 
 both-passed : (o more : Option Fault) → or_else o more ≡ None → (o ≡ None) × (more ≡ None)
 both-passed None more e = (refl, e)
-both-passed (Some f) more e = absurd (none-some (sym e))
+both-passed (Some f) more e = absurd (none-some _ (sym e))
 
 barred-passed : {C : Type 0} (line : ℕ) (o : Result C Barred) → barred_fault line o ≡ None → (p : C) × (o ≡ Ok p)
 barred-passed line (Ok p) e = (p, refl)
-barred-passed line (Err (Bars.NotListed field)) e = absurd (none-some (sym e))
-barred-passed line (Err Bars.Crossed) e = absurd (none-some (sym e))
+barred-passed line (Err (Bars.NotListed field)) e = absurd (none-some _ (sym e))
+barred-passed line (Err Bars.Crossed) e = absurd (none-some _ (sym e))
 
 misfit-passed : (line : ℕ) (o : Option Misfit) → misfit_fault line o ≡ None → o ≡ None
 misfit-passed line None e = refl
-misfit-passed line (Some m) e = absurd (none-some (sym e))
+misfit-passed line (Some m) e = absurd (none-some _ (sym e))
 
 -- where no field is at fault for one reason, what else there is comes first
 fault-passed : (r : Reason) (fs : List Field) (more : Option Misfit) → first_at_fault r fs None ≡ None → first_at_fault r fs more ≡ more
@@ -40,7 +40,7 @@ fault-passed r (f ∷ fs) more e =
     let m : Misfit = record { reason = r; field = f.number } in
     elim (stands r f) as (λ b. unless b m (first_at_fault r fs None) ≡ None → unless b m (first_at_fault r fs more) ≡ more) [
       | true ↦ λ h. fault-passed r fs more h
-      | false ↦ λ h. absurd (none-some (sym h))
+      | false ↦ λ h. absurd (none-some _ (sym h))
     ] e
 
 -- ---- the calls, where n cells are declared and m statements accepted

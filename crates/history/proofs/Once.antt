@@ -5,7 +5,7 @@ use Rattle.fault.specs.declared.Refusal.TheVariants.{Contradiction}
 use Rattle.fault.specs.Refusals.{fault_of}
 use Rattle.domain.specs.declared.kind.Domain as Domain
 use Rattle.domain.specs.declared.kind.Halves as Halves
-use Rattle.domain.specs.Options.{none-some, some-is}
+use Rattle.std.proofs.lemmas.Option.{none-some, same_Some}
 use Rattle.engine.specs.declared.propagator.Propagator as Propagator
 use Rattle.engine.specs.Rows.{item}
 use Rattle.meaning.specs.Search.{Ending, Searched}
@@ -86,14 +86,14 @@ module _ {C V T B R E : Type 0} {kind : Domain.Ghosts C V T} {halves : Halves.Gh
   contradicts-one t (Settle line limit long) f g m n = absurd m
 
   denied-one : (t : Told B C R) (c : Call E R) (f g : Fault) → Denied kind halves rule entered t c f → Denied kind halves rule entered t c g → f ≡ g
-  denied-one t c f g (inl d) (inl e) = some-is (sym d ∙ e)
-  denied-one t c f g (inl d) (inr n) = absurd (none-some (sym n.0 ∙ d))
-  denied-one t c f g (inr m) (inl e) = absurd (none-some (sym m.0 ∙ e))
+  denied-one t c f g (inl d) (inl e) = same_Some _ _ (sym d ∙ e)
+  denied-one t c f g (inl d) (inr n) = absurd (none-some _ (sym n.0 ∙ d))
+  denied-one t c f g (inr m) (inl e) = absurd (none-some _ (sym m.0 ∙ e))
   denied-one t c f g (inr m) (inr n) = contradicts-one t c f g m.1 n.1
 
   -- no check fails, and there is no contradiction
   undenied : (t : Told B C R) (c : Call E R) (f : Fault) → denial kind halves rule entered t c ≡ None → (Contradicts kind halves rule entered t c f → ⊥) → Denied kind halves rule entered t c f → ⊥
-  undenied t c f d n (inl e) = none-some (sym d ∙ e)
+  undenied t c f d n (inl e) = none-some _ (sym d ∙ e)
   undenied t c f d n (inr m) = n m.1
 
   pub denied-exactly : (t : Told B C R) (c : Call E R) (a : Answer C) (u : Told B C R) → Says t c a u → (f : Fault) → (a ≡ denied f) ↔ Denied kind halves rule entered t c f
@@ -107,7 +107,7 @@ module _ {C V T B R E : Type 0} {kind : Domain.Ghosts C V T} {halves : Halves.Gh
 
   pub contradicts : (t u : Told B C R) (line spare : ℕ) (r : R) (a : Answer C) → Says t (State line r spare) a u → denial kind halves rule entered t (State line r spare) ≡ None →
       ((a ≡ denied (fault_of Contradiction line 0)) × NothingLeft kind halves rule entered t r) ⊎ ((a ≡ taken) × (NothingLeft kind halves rule entered t r → ⊥))
-  contradicts t u line spare r (denied f) s d = elim s.0 [ inl e ↦ absurd (none-some (sym d ∙ e)) | inr n ↦ inl (ap denied n.1.0, n.1.1) ]
+  contradicts t u line spare r (denied f) s d = elim s.0 [ inl e ↦ absurd (none-some _ (sym d ∙ e)) | inr n ↦ inl (ap denied n.1.0, n.1.1) ]
   contradicts t u line spare r taken s d = inr (refl, something-left t u r s.1.0 s.1.1.0 s.1.1.1)
   contradicts t u line spare r (shown p) s d = absurd s.1
   contradicts t u line spare r (ended x cuts) s d = absurd s.1
@@ -132,7 +132,7 @@ module _ {C V T B R E : Type 0} {kind : Domain.Ghosts C V T} {halves : Halves.Gh
   shown-once : (t : Told B C R) (c : Call E R) (p q : C) → Shows kind halves rule entered t c p → Shows kind halves rule entered t c q → p ≡ q
   shown-once t (Declare line k e) p q s y = absurd s
   shown-once t (State line r spare) p q s y = absurd s
-  shown-once t (Ask k) p q s y = some-is (sym s.2 ∙ ap (λ P. item P (k - 1)) (one-standing t s.0 y.0 s.1 y.1) ∙ y.2)
+  shown-once t (Ask k) p q s y = same_Some _ _ (sym s.2 ∙ ap (λ P. item P (k - 1)) (one-standing t s.0 y.0 s.1 y.1) ∙ y.2)
   shown-once t (Settle line limit long) p q s y = absurd s
 
   ended-once : (t : Told B C R) (c : Call E R) (e f : Ending C) (m n : ℕ) → Ends kind halves rule entered t c e m → Ends kind halves rule entered t c f n → (e ≡ f) × (m ≡ n)

@@ -19,7 +19,7 @@ use Rattle.history.specs.Holds.{Holds}
 use Rattle.history.proofs.Held.{holds-declared, holds-stated, nothing-left}
 use Rattle.sheet.specs.Calls.{Declared, Asked, Tried, Stated, Settling}
 use Rattle.play.specs.Plays.{asks_for, taken_of, shown_of, ended_of, answer_of, Ends, Serves}
-use Rattle.play.specs.declared.answer.Answer as Given
+use Rattle.play.specs.declared.answer.Reply.{Reply}
 
 module _ {C V T B R E : Type 0} {kind : Domain.Ghosts C V T} {halves : Halves.Ghosts C V T} {rule : Propagator.Ghosts R C B V T}
     (laws : (b : B) → LawfulHalves kind halves rule b) (entered : Entered.Ghosts E C B V T) where
@@ -88,7 +88,7 @@ module _ {C V T B R E : Type 0} {kind : Domain.Ghosts C V T} {halves : Halves.Gh
       Asked cells k o → Holds kind rule t cells → Answers kind halves rule entered t c a t × Holds kind rule t cells
   serves-ask t cells k o c a is same d h = moved t t c (Ask k) a (shown_of o) cells is same (asked-served t cells k o h d, h)
 
-  pub serves-settle : {X : Type 0} (t : Told B C R) (cells memory memory' : List C) (line limit n : ℕ) (c : Call E R) (o : Result (Given.Answer C) X) → c ≡ Settle line limit n → length memory ≡ asks_for c →
+  pub serves-settle : {X : Type 0} (t : Told B C R) (cells memory memory' : List C) (line limit n : ℕ) (c : Call E R) (o : Result (Result (Reply C) Fault) X) → c ≡ Settle line limit n → length memory ≡ asks_for c →
       IfOk o (λ a. Ends kind halves rule t cells line limit memory memory' (answer_of a)) → Serves kind halves rule entered t cells c o t cells
   serves-settle t cells memory memory' line limit n c (Ok a) is asked d = λ h.
       moved t t c (Settle line limit (length memory)) (answer_of a) (ended_of (take (length cells) memory') d.0) cells (is ∙ ap (Settle line limit) (sym (asked ∙ ap asks_for is))) d.2

@@ -3,17 +3,20 @@ ghost use Rattle.std.specs.Prelude.{◌≡◌};
 ghost use Rattle.play.specs.declared.answer.Stopped.TheVariants.{NoMemory};
 
 use fault::Fault;
-use solver::End;
+use solver::Settled;
 use std::alloc::{AllocError, AllocFailed};
 
-/// What a call was answered: refused; taken; the bounds of a cell; or how a settling ended, its cuts, and the row that it found, if any.
+/// What a call was answered that no check denies: that it was taken; the bounds of a cell; or how a settling ended, and the row that it found,
+/// if any.
 #[derive(Drop)]
-pub enum Answer<C> {
-    Denied(Fault),
+pub enum Reply<C> {
     Taken,
     Shown(C),
-    Ended(End, usize, Vec<C>),
+    Ended(Settled, Vec<C>),
 }
+
+/// What a call was answered: a reply, or the fault by which it was denied.
+pub type Answer<C> = Result<Reply<C>, Fault>;
 
 /// Why not all calls were played.
 #[derive(Clone, Copy)]
@@ -24,6 +27,7 @@ pub enum Stopped {
     NoMemory,
 }
 
+// As for `fault::Failure`, which is refused by a fault where this stops at a call: one type for both is no plainer.
 impl From<AllocError> for Stopped {
     ghost from_gives = { λ _ r. r ≡ NoMemory };
 

@@ -5,5 +5,5 @@ pub mod answer;
 pub mod playing;
 pub mod serving;
 
-pub use answer::{Answer, Stopped};
+pub use answer::{Answer, Reply, Stopped};
 pub use playing::play;

@@ -36,12 +36,11 @@ pub fn play<C: Halves, B: Drop, R: Propagator<C, B>, E: Entered<C, B>>(
 {
     let mut sheet = Sheet::new(heap, book)?;
     let mut answers = Vec::new(heap);
-    for i in 0..calls.len() {
-        let call = calls[i];
-        if memory.len() < asks_for(call) {
+    for (i, call) in calls.iter().enumerate() {
+        if memory.len() < asks_for(*call) {
             return Err(Stopped::Short(i));
         }
-        let answer = serve_in(heap, &mut sheet, call, memory)?;
+        let answer = serve_in(heap, &mut sheet, *call, memory)?;
         answers.push(answer)?;
     }
     Ok(answers)

@@ -4,23 +4,19 @@ ghost use Rattle.history.specs.Holds.{Holds};
 ghost use Rattle.sheet.specs.Sheets.{told_of, bounds_of};
 ghost use Rattle.play.specs.Plays.{asks_for, taken_of, shown_of, answer_of, Ends, Serves};
 
-use super::answer::Answer;
+use super::answer::{Answer, Reply};
 use domain::Halves;
 use engine::Propagator;
 use fault::Fault;
 use history::{Call, Entered};
 use sheet::Sheet;
-use solver::{End, Settled};
 use std::alloc::{AllocError, Global};
 
 // The answer to a declare or a state.
 fn taken<C>(res: Result<(), Fault>) -> Answer<C>
     ensures { answer_of result ≡ taken_of res }
 {
-    match res {
-        Ok(()) => Answer::Taken,
-        Err(fault) => Answer::Denied(fault),
-    }
+    res.map(|()| Reply::Taken)
 }
 
 /// How many cells of memory a call asks for.
@@ -28,10 +24,9 @@ pub fn asks_for<E: Copy, R: Copy>(call: Call<E, R>) -> usize
     ensures { result ≡ asks_for call }
 {
     match call {
-        Call::Declare(_, _, _) => 0,
-        Call::State(_, _, spare) => spare,
-        Call::Ask(_) => 0,
-        Call::Settle(_, _, stack) => stack,
+        Call::State { spare, .. } => spare,
+        Call::Settle { stack, .. } => stack,
+        Call::Declare { .. } | Call::Ask { .. } => 0,
     }
 }
 
@@ -40,6 +35,7 @@ fn copied<C: Copy>(heap: Global, row: &[C], n: usize) -> Result<Vec<C>, AllocErr
     requires { n ≤ length row.now }
     ensures { IfOk result (λ v. v.items ≡ take n row.now) }
 {
+    // `to_vec` clones: that the clones are what is cloned was tried, and stayed open
     let mut cells = Vec::new(heap);
     cells.extend_from_slice(&row[..n])?;
     Ok(cells)
@@ -49,10 +45,7 @@ fn copied<C: Copy>(heap: Global, row: &[C], n: usize) -> Result<Vec<C>, AllocErr
 fn shown<C>(res: Result<C, Fault>) -> Answer<C>
     ensures { answer_of result ≡ shown_of res }
 {
-    match res {
-        Ok(bounds) => Answer::Shown(bounds),
-        Err(fault) => Answer::Denied(fault),
-    }
+    res.map(Reply::Shown)
 }
 
 // The answer to a settle, with a copy of the first row of the stack.
@@ -65,12 +58,13 @@ fn settled<C: Halves, B: Drop, R: Propagator<C, B>>(
 ) -> Result<Answer<C>, AllocError>
     ensures { IfOk result (λ a. Ends C.Domain C.Halves.own R.Propagator (told_of sheet.now) (bounds_of sheet.now) line limit stack.old stack.new (answer_of a)) }
 {
+    // a fault is an answer, so that `?` serves the want of memory alone
     match sheet.settle(line, limit, stack) {
         Ok(settled) => {
             let row = copied(heap, stack, sheet.count())?;
-            Ok(Answer::Ended(settled.end, settled.cuts, row))
+            Ok(Ok(Reply::Ended(settled, row)))
         }
-        Err(fault) => Ok(Answer::Denied(fault)),
+        Err(fault) => Ok(Err(fault)),
     }
 }
 
@@ -84,9 +78,9 @@ pub fn serve<C: Halves, B: Drop, R: Propagator<C, B>, E: Entered<C, B>>(
     ensures { length memory.old ≡ asks_for call → Serves C.Domain C.Halves.own R.Propagator E.Entered (told_of sheet.old) (bounds_of sheet.old) call result (told_of sheet.new) (bounds_of sheet.new) }
 {
     match call {
-        Call::Declare(line, cell, bounds) => Ok(taken(sheet.declare(line, cell, bounds))),
-        Call::State(line, rule, _) => Ok(taken(sheet.state(line, rule, memory))),
-        Call::Ask(cell) => Ok(shown(sheet.ask(cell))),
-        Call::Settle(line, limit, _) => settled(heap, sheet, line, limit, memory),
+        Call::Declare { line, cell, bounds } => Ok(taken(sheet.declare(line, cell, bounds))),
+        Call::State { line, rule, .. } => Ok(taken(sheet.state(line, rule, memory))),
+        Call::Ask { cell } => Ok(shown(sheet.ask(cell))),
+        Call::Settle { line, limit, .. } => settled(heap, sheet, line, limit, memory),
     }
 }

@@ -2,13 +2,18 @@
 #![tactic(auto)]
 
 ghost use Rattle.std.specs.Prelude.{◌≤◌, vec_len, vec_capacity};
+ghost use Rattle.rules.specs.declared.TheConstants.{CAPACITY};
 
 pub mod listing;
 
-/// At most 64 rules. Room for all is reserved at the start, so that taking one cannot fail for want of memory.
+/// The most rules that a list holds.
+pub const CAPACITY: usize = 64;
+
+/// At most 64 rules. Room for all is reserved at the start, so that taking one cannot fail for want of memory. It is a `Vec` of its own, as each
+/// table here is by a rule of the project.
 #[derive(Drop)]
 pub struct Rules<R> {
     items: Vec<R>,
-    ghost roomy: { 64 ≤ vec_capacity items },
-    ghost few: { vec_len items ≤ 64 },
+    ghost roomy: { CAPACITY ≤ vec_capacity items },
+    ghost few: { vec_len items ≤ CAPACITY },
 }

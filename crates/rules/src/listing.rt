@@ -2,7 +2,7 @@
 ghost use Rattle.std.specs.Prelude.{◌≡◌, ◌≤◌, [], length, IfOk, ◌==◌};
 ghost use Rattle.rules.specs.Listed.{listed, Pushed, but_newest};
 
-use super::Rules;
+use super::{CAPACITY, Rules};
 use std::alloc::{AllocError, Global};
 
 impl<R: Copy> Rules<R> {
@@ -10,7 +10,7 @@ impl<R: Copy> Rules<R> {
     pub fn new(heap: Global) -> Result<Rules<R>, AllocError>
         ensures { IfOk result (λ rules. listed rules ≡ []) }
     {
-        let items = Vec::with_capacity(heap, 64)?;
+        let items = Vec::with_capacity(heap, CAPACITY)?;
         Ok(Rules { items })
     }
 
@@ -25,7 +25,7 @@ impl<R: Copy> Rules<R> {
     pub fn is_full(&self) -> bool
         ensures { result ≡ (length (listed self.now) == 64) }
     {
-        self.len() == 64
+        self.len() == CAPACITY
     }
 
     /// All of them, the oldest first.
@@ -36,15 +36,15 @@ impl<R: Copy> Rules<R> {
         self.items.as_slice()
     }
 
-    /// Takes a rule as the newest, unless there are 64: the answer says whether it was taken.
-    pub fn push(&mut self, rule: R) -> bool
+    /// Takes a rule as the newest, or gives it back where there are 64.
+    pub fn push(&mut self, rule: R) -> Result<(), R>
         ensures { Pushed (listed self.old) rule (listed self.new) result }
     {
         if self.is_full() {
-            return false;
+            return Err(rule);
         }
         self.items.push_reserved(rule);
-        true
+        Ok(())
     }
 
     /// Gives up the newest rule, if there is one.

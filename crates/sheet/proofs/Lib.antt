@@ -1,3 +1,2 @@
 -- What follows for the calls to a sheet.
 pub mod Misfits
-pub mod Trials

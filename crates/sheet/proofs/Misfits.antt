@@ -45,14 +45,20 @@ taken line None more e = false-true e
 taken line (Some m) more e = refl
 
 module _ (n m line : ℕ) (fs : List Field) (spare : ℕ) where
-  pub early-denial : is_unranged (first_misfit fs) ≡ true → misfit_fault line (first_misfit fs) ≡ state_denial n m line fs spare
-  early-denial e = elim (parted fs (out_of_place fs)) [
+  early : is_unranged (first_misfit fs) ≡ true → misfit_fault line (first_misfit fs) ≡ state_denial n m line fs spare
+  early e = elim (parted fs (out_of_place fs)) [
     | inl p ↦ false-true (sym (besides fs) ∙ ap is_unranged (sym p.1) ∙ e)
     | inr p ↦ taken line (first_misfit fs) (late_denial n m line (out_of_place fs) spare) e ∙ ap (λ o. or_else (misfit_fault line o) (late_denial n m line (out_of_place fs) spare)) (sym p.0)
   ]
 
-  pub late-denial : is_unranged (first_misfit fs) ≡ false → late_denial n m line (first_misfit fs) spare ≡ state_denial n m line fs spare
-  late-denial e = elim (parted fs (out_of_place fs)) [
+  late : is_unranged (first_misfit fs) ≡ false → late_denial n m line (first_misfit fs) spare ≡ state_denial n m line fs spare
+  late e = elim (parted fs (out_of_place fs)) [
     | inl p ↦ ap (λ o. late_denial n m line o spare) p.1 ∙ ap (λ o. or_else (misfit_fault line o) (late_denial n m line (out_of_place fs) spare)) (sym p.0)
     | inr p ↦ false-true (sym e ∙ p.1)
   ]
+
+  pub early-denial : (o : Option Misfit) → o ≡ first_misfit fs → is_unranged o ≡ true → misfit_fault line o ≡ state_denial n m line fs spare
+  early-denial o f e = ap (misfit_fault line) f ∙ early (ap is_unranged (sym f) ∙ e)
+
+  pub late-denial : (o : Option Misfit) → o ≡ first_misfit fs → is_unranged o ≡ false → late_denial n m line o spare ≡ state_denial n m line fs spare
+  late-denial o f e = ap (λ x. late_denial n m line x spare) f ∙ late (ap is_unranged (sym f) ∙ e)

@@ -4,8 +4,8 @@ ghost use Rattle.history.specs.Told.{fresh, with_cell};
 ghost use Rattle.sheet.specs.Sheets.{told_of, bounds_of};
 ghost use Rattle.sheet.specs.Calls.{Declared, Asked};
 
-use super::checks::{ask_denial, declare_denial};
-use super::sheet::Sheet;
+use super::checks::{check_ask, check_declare};
+use super::sheet::{CELLS, Sheet};
 use domain::Domain;
 use engine::Propagator;
 use fault::Fault;
@@ -18,9 +18,9 @@ impl<C: Domain, B: Drop, R: Propagator<C, B>> Sheet<C, B, R> {
     pub fn new(heap: Global, book: B) -> Result<Sheet<C, B, R>, AllocError>
         ensures { IfOk result (λ sheet. (told_of sheet ≡ fresh book) × (bounds_of sheet ≡ [])) }
     {
-        let declared = Vec::with_capacity(heap, 24)?;
-        let cells = Vec::with_capacity(heap, 24)?;
-        let saved = Vec::with_capacity(heap, 24)?;
+        let declared = Vec::with_capacity(heap, CELLS)?;
+        let cells = Vec::with_capacity(heap, CELLS)?;
+        let saved = Vec::with_capacity(heap, CELLS)?;
         let rules = Rules::new(heap)?;
         Ok(Sheet {
             book,
@@ -40,7 +40,7 @@ impl<C: Domain, B: Drop, R: Propagator<C, B>> Sheet<C, B, R> {
 
     // Puts a cell behind the others.
     fn add(&mut self, cell: C)
-        requires { length (bounds_of self.old) < 24 }
+        requires { length (bounds_of self.old) < CELLS }
         ensures told { told_of self.new ≡ with_cell (told_of self.old) cell }
         ensures bounds { bounds_of self.new ≡ bounds_of self.old ++ (cell ∷ []) }
     {
@@ -59,30 +59,16 @@ impl<C: Domain, B: Drop, R: Propagator<C, B>> Sheet<C, B, R> {
         ensures { Declared E.Entered (told_of self.old) (bounds_of self.old) line cell bounds result (told_of self.new) (bounds_of self.new) }
     {
         let admitted = bounds.admit(&self.book);
-        match declare_denial(
-            self.declared.len(),
-            line,
-            cell,
-            bounds.find_unranged(),
-            admitted,
-        ) {
-            Some(fault) => Err(fault),
-            None => {
-                if let Ok(made) = admitted {
-                    self.add(made);
-                }
-                Ok(())
-            }
-        }
+        let made = check_declare(self.count(), line, cell, bounds.find_unranged(), admitted)?;
+        self.add(made);
+        Ok(())
     }
 
     /// The standing bounds of a cell; refused by 4 or 13.
     pub fn ask(&self, cell: u32) -> Result<C, Fault>
         ensures { Asked (bounds_of self.now) cell result }
     {
-        match ask_denial(self.cells.len(), cell) {
-            Some(fault) => Err(fault),
-            None => Ok(self.cells[cell as usize - 1]),
-        }
+        check_ask(self.count(), cell)?;
+        Ok(self.cells[cell as usize - 1])
     }
 }

@@ -1,76 +1,30 @@
 //! The checks of the calls, each before the next, and what they refuse by.
-ghost use Rattle.std.specs.Prelude.{◌≡◌, ◌+◌, List, ◌==◌};
-ghost use Rattle.history.specs.Denials.{refuse_if, or_else, is_cell, unranged_fault, barred_fault, refusal_of, nameable, misfit_fault, declare_denial, state_denial, ask_denial};
+ghost use Rattle.std.specs.Prelude.{◌≡◌, ◌+◌, List, ◌==◌, IfOk, Ok};
+ghost use Rattle.history.specs.Denials.{is_cell, refusal_of, nameable, misfit_fault, declare_denial, state_denial, ask_denial};
 ghost use Rattle.engine.specs.declared.field.Field.{Field};
 ghost use Rattle.engine.specs.Fits.{first_misfit};
-ghost use Rattle.sheet.specs.Misfits.{is_unranged, late_denial};
+ghost use Rattle.sheet.specs.Misfits.{Denies, is_unranged, late_denial};
 
+use super::sheet::{CELLS, RULES};
 use engine::{Misfit, Reason};
 use fault::{Fault, Refusal};
 use history::Barred;
-
-/// The most cells of a sheet.
-pub const CELLS: usize = 24;
-
-/// The most statements of a sheet.
-pub const RULES: usize = 64;
-
-/// The highest cut limit.
-pub const CUTS: u32 = 1_000_000;
-
-// A refusal where the test says so; else what the further checks say.
-fn refuse_if(fails: bool, fault: Fault, more: Option<Fault>) -> Option<Fault>
-    ensures { result ≡ refuse_if fails fault more }
-{
-    if fails { Some(fault) } else { more }
-}
-
-// The first refusal, if there is one; else the second.
-fn or_else(first: Option<Fault>, more: Option<Fault>) -> Option<Fault>
-    ensures { result ≡ or_else first more }
-{
-    match first {
-        Some(fault) => Some(fault),
-        None => more,
-    }
-}
 
 // A cell's number is from 1 to 99.
 fn is_cell(cell: u32) -> bool
     ensures { result ≡ is_cell cell }
 {
-    1 <= cell && cell <= 99
+    (1..=99).contains(&cell)
 }
 
 // Is this the number of the cell after the last?
 fn is_next(count: usize, cell: u32) -> bool
     ensures { result ≡ (cell == count + 1) }
 {
-    1 <= cell && cell as usize - 1 == count
+    (cell as usize).checked_sub(1) == Some(count)
 }
 
-// A number out of its range, at its field.
-fn unranged_fault(line: u32, unranged: Option<u8>) -> Option<Fault>
-    ensures { result ≡ unranged_fault line unranged }
-{
-    match unranged {
-        Some(field) => Some(Fault::new(Refusal::BadNumber, line, field)),
-        None => None,
-    }
-}
-
-// Why the bounds were not taken as a cell.
-fn barred_fault<C: Copy>(line: u32, admitted: Result<C, Barred>) -> Option<Fault>
-    ensures { result ≡ barred_fault line admitted }
-{
-    match admitted {
-        Ok(_) => None,
-        Err(Barred::NotListed(field)) => Some(Fault::new(Refusal::NotOnTicket, line, field)),
-        Err(Barred::Crossed) => Some(Fault::new(Refusal::Crossed, line, 0)),
-    }
-}
-
-// The refusal of a field that does not fit.
+// The refusal of a field that does not fit. Both types are of other crates, so that it is no `From`.
 fn refusal_of(reason: Reason) -> Refusal
     ensures { result ≡ refusal_of reason }
 {
@@ -86,111 +40,102 @@ fn refusal_of(reason: Reason) -> Refusal
 fn nameable(field: usize) -> u8
     ensures { result ≡ nameable field }
 {
-    if field <= 255 { field as u8 } else { 255 }
+    u8::try_from(field).unwrap_or(u8::MAX)
 }
 
-/// What is at fault in the fields of a statement.
-pub fn misfit_fault(line: u32, misfit: Option<Misfit>) -> Option<Fault>
-    ensures { result ≡ misfit_fault line misfit }
+// Whether nothing is at fault in the fields of a statement.
+fn check_fits(line: u32, misfit: Option<Misfit>) -> Result<(), Fault>
+    ensures { Denies (misfit_fault line misfit) result }
 {
     match misfit {
-        Some(m) => Some(Fault::new(refusal_of(m.reason), line, nameable(m.field))),
-        None => None,
+        Some(m) => Err(Fault::new(refusal_of(m.reason), line, nameable(m.field))),
+        None => Ok(()),
     }
-}
-
-/// Why a cell is not declared, where there are `count` already: 4, 9, 8, 11, 12.
-pub fn declare_denial<C: Copy>(
-    count: usize,
-    line: u32,
-    cell: u32,
-    unranged: Option<u8>,
-    admitted: Result<C, Barred>,
-) -> Option<Fault>
-    ensures { result ≡ declare_denial count line cell unranged admitted }
-{
-    let barred = barred_fault(line, admitted);
-    let next = refuse_if(
-        !is_next(count, cell),
-        Fault::new(Refusal::NotNext, line, 2),
-        barred,
-    );
-    let full = refuse_if(CELLS <= count, Fault::new(Refusal::Full, line, 0), next);
-    let ranged = or_else(unranged_fault(line, unranged), full);
-    refuse_if(
-        !is_cell(cell),
-        Fault::new(Refusal::BadNumber, line, 2),
-        ranged,
-    )
 }
 
 // Is a number out of its range, before all else that may be at fault?
 fn is_unranged(misfit: Option<Misfit>) -> bool
     ensures { result ≡ is_unranged misfit }
 {
-    match misfit {
-        Some(m) => match m.reason {
-            Reason::OutOfRange => true,
-            Reason::NotDeclared => false,
-            Reason::WrongKind => false,
-            Reason::NotListed => false,
-        },
-        None => false,
-    }
+    misfit.is_some_and(|m| m.reason == Reason::OutOfRange)
 }
 
-// The checks of a statement whose numbers are in range.
-fn late_denial(
+/// The bounds as a cell, where it may be declared and there are `count` already; refused by 4, 9, 8, 11 or 12.
+pub fn check_declare<C: Copy>(
     count: usize,
-    accepted: usize,
     line: u32,
-    misfit: Option<Misfit>,
-    spare: usize,
-) -> Option<Fault>
-    ensures { result ≡ late_denial count accepted line misfit spare }
+    cell: u32,
+    unranged: Option<u8>,
+    admitted: Result<C, Barred>,
+) -> Result<C, Fault>
+    ensures denied { Denies (declare_denial count line cell unranged admitted) result }
+    ensures made { IfOk result (λ made. admitted ≡ Ok made) }
 {
-    let full = refuse_if(
-        RULES <= accepted,
-        Fault::new(Refusal::Full, line, 0),
-        misfit_fault(line, misfit),
-    );
-    refuse_if(
-        spare < count,
-        Fault::new(Refusal::ShortMemory, line, 0),
-        full,
-    )
+    if !is_cell(cell) {
+        return Err(Fault::new(Refusal::BadNumber, line, 2));
+    }
+    if let Some(field) = unranged {
+        return Err(Fault::new(Refusal::BadNumber, line, field));
+    }
+    if CELLS <= count {
+        return Err(Fault::new(Refusal::Full, line, 0));
+    }
+    if !is_next(count, cell) {
+        return Err(Fault::new(Refusal::NotNext, line, 2));
+    }
+    admitted.map_err(|barred| match barred {
+        Barred::NotListed(field) => Fault::new(Refusal::NotOnTicket, line, field),
+        Barred::Crossed => Fault::new(Refusal::Crossed, line, 0),
+    })
 }
 
-/// Why a statement is not taken, where there are `count` cells and so many statements accepted: 4, 16, 9, 13, 14, 11. Only what is first at
-/// fault in its fields is looked at.
-pub fn state_denial(
+// The checks of a statement whose numbers are in range. What the two checks of a statement read is five numbers of a sheet and a call: a struct
+// for these two alone is no plainer.
+fn check_late(
     count: usize,
     accepted: usize,
     line: u32,
     misfit: Option<Misfit>,
     spare: usize,
-) -> Option<Fault>
-    ensures { (fs : List Field) → misfit ≡ first_misfit fs → result ≡ state_denial count accepted line fs spare }
+) -> Result<(), Fault>
+    ensures { Denies (late_denial count accepted line misfit spare) result }
+{
+    if spare < count {
+        return Err(Fault::new(Refusal::ShortMemory, line, 0));
+    }
+    if RULES <= accepted {
+        return Err(Fault::new(Refusal::Full, line, 0));
+    }
+    check_fits(line, misfit)
+}
+
+/// Whether a statement may be taken, where there are `count` cells and so many statements accepted; refused by 4, 16, 9, 13, 14 or 11. Only
+/// what is first at fault in its fields is looked at.
+pub fn check_state(
+    count: usize,
+    accepted: usize,
+    line: u32,
+    misfit: Option<Misfit>,
+    spare: usize,
+) -> Result<(), Fault>
+    ensures { (fs : List Field) → misfit ≡ first_misfit fs → Denies (state_denial count accepted line fs spare) result }
 {
     if is_unranged(misfit) {
-        misfit_fault(line, misfit)
+        check_fits(line, misfit)
     } else {
-        late_denial(count, accepted, line, misfit, spare)
+        check_late(count, accepted, line, misfit, spare)
     }
 }
 
-/// Why a cell is not shown: 4, 13.
-pub fn ask_denial(count: usize, cell: u32) -> Option<Fault>
-    ensures { result ≡ ask_denial count cell }
+/// Whether a cell may be shown; refused by 4 or 13.
+pub fn check_ask(count: usize, cell: u32) -> Result<(), Fault>
+    ensures { Denies (ask_denial count cell) result }
 {
-    let declared = refuse_if(
-        count < cell as usize,
-        Fault::new(Refusal::NotDeclared, 0, 2),
-        None,
-    );
-    refuse_if(
-        !is_cell(cell),
-        Fault::new(Refusal::BadNumber, 0, 2),
-        declared,
-    )
+    if !is_cell(cell) {
+        return Err(Fault::new(Refusal::BadNumber, 0, 2));
+    }
+    if count < cell as usize {
+        return Err(Fault::new(Refusal::NotDeclared, 0, 2));
+    }
+    Ok(())
 }

@@ -2,8 +2,7 @@
 ghost use Rattle.sheet.specs.Sheets.{told_of, bounds_of};
 ghost use Rattle.sheet.specs.Calls.{Settling};
 
-use super::checks::CUTS;
-use super::sheet::Sheet;
+use super::sheet::{CUTS, Sheet};
 use domain::Halves;
 use engine::Propagator;
 use fault::{Fault, Refusal};
@@ -18,9 +17,7 @@ impl<C: Halves, B: Drop, R: Propagator<C, B>> Sheet<C, B, R> {
         if CUTS < limit {
             return Err(Fault::new(Refusal::BadNumber, line, 2));
         }
-        match settle(&self.book, &self.rules, &self.cells, limit as usize, stack) {
-            Some(settled) => Ok(settled),
-            None => Err(Fault::new(Refusal::ShortMemory, line, 0)),
-        }
+        let short = Fault::new(Refusal::ShortMemory, line, 0);
+        settle(&self.book, &self.rules, &self.cells, limit as usize, stack).ok_or(short)
     }
 }

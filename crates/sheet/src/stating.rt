@@ -6,10 +6,10 @@ ghost use Rattle.meaning.specs.Resting.{Rests};
 ghost use Rattle.sheet.specs.Sheets.{told_of, bounds_of, saved_of, without_newest};
 ghost use Rattle.sheet.specs.Calls.{Tried, Stated};
 
-use super::checks::state_denial;
-use super::sheet::Sheet;
+use super::checks::check_state;
+use super::sheet::{RULES, Sheet};
 use domain::Domain;
-use engine::Propagator;
+use engine::{Contradiction, Propagator};
 use fault::{Fault, Refusal};
 use rules::Rules;
 use solver::rest_newest;
@@ -28,7 +28,7 @@ fn rest_first<C: Domain, B, R: Propagator<C, B>>(
     rules: &Rules<R>,
     row: &mut [C],
     n: usize,
-) -> bool
+) -> Result<(), Contradiction>
     requires { n ≤ length row.old }
     ensures rested { Rests C.Domain R.Propagator book.now (but_newest (listed rules.now)) (take n row.old) → Fixpoint C.Domain R.Propagator book.now (listed rules.now) (take n row.old) (take n row.new) result }
     ensures others { drop n row.new ≡ drop n row.old }
@@ -61,36 +61,32 @@ impl<C: Domain, B: Drop, R: Propagator<C, B>> Sheet<C, B, R> {
     // Tries a statement in the spare row, where there is room for it, and keeps it or gives it up.
     fn try_rule(&mut self, line: u32, rule: R, spare: &mut [C]) -> Result<(), Fault>
         requires room { length (bounds_of self.old) ≤ length spare.old }
-        requires few { length (told_of self.old).accepted < 64 }
+        requires few { length (told_of self.old).accepted < RULES }
         ensures { Tried C.Domain R.Propagator (told_of self.old) (bounds_of self.old) line rule spare.old result (told_of self.new) (bounds_of self.new) spare.new }
     {
         let n = self.cells.len();
         self.saved.copy_from_slice(&spare[..n]);
         lay(spare, &self.cells);
-        self.rules.push(rule);
-        if rest_first(&self.book, &self.rules, spare, n) {
-            self.keep(spare);
-            Ok(())
-        } else {
-            self.give_up(spare);
-            Err(Fault::new(Refusal::Contradiction, line, 0))
+        self.rules.push(rule).unwrap();
+        match rest_first(&self.book, &self.rules, spare, n) {
+            Ok(()) => {
+                self.keep(spare);
+                Ok(())
+            }
+            Err(Contradiction) => {
+                self.give_up(spare);
+                Err(Fault::new(Refusal::Contradiction, line, 0))
+            }
         }
     }
+
     /// Adds a statement, and takes all cells to the standing bounds; refused by 4, 16, 9, 13, 14, 11 or 15. The spare row is the caller's, with
     /// as many cells as are declared; a refusal leaves it as it was.
     pub fn state(&mut self, line: u32, rule: R, spare: &mut [C]) -> Result<(), Fault>
         ensures { Stated C.Domain R.Propagator (told_of self.old) (bounds_of self.old) line rule spare.old result (told_of self.new) (bounds_of self.new) spare.new }
     {
         let misfit = rule.find_misfit(&self.book, &self.declared);
-        match state_denial(
-            self.declared.len(),
-            self.rules.len(),
-            line,
-            misfit,
-            spare.len(),
-        ) {
-            Some(fault) => Err(fault),
-            None => self.try_rule(line, rule, spare),
-        }
+        check_state(self.count(), self.rules.len(), line, misfit, spare.len())?;
+        self.try_rule(line, rule, spare)
     }
 }

@@ -1,18 +1,19 @@
 -- Rows inside one another, and what a firing keeps.
-use Rattle.std.proofs.Common.{◌≡◌, ℕ, zero, suc, ◌+◌, ◌-◌, ◌*◌, ◌^◌, ◌<◌, ◌≤◌, Bool, true, false, not, ◌&&◌, ◌||◌, T, ltb, ◌⊎◌, List, [], ◌∷◌, length, take, Some, None, sym, refl, ap, ◌∙◌, subst, inl, inr, ⊎_elim, arith, eqb→eq, ltb-true, lt-ltb}
-use lib.Bits.{bit_or, and_le_r}
+use Rattle.std.proofs.Common.{◌≡◌, ℕ, zero, suc, ◌+◌, ◌-◌, ◌*◌, ◌^◌, ◌<◌, ◌≤◌, Bool, true, false, not, ◌&&◌, ◌||◌, T, ltb, ◌⊎◌, List, [], ◌∷◌, length, take, Some, None, Ok, Err, Result, IsErr, sym, refl, ap, ◌∙◌, subst, inl, inr, ⊎_elim, arith, ltb-true, lt-ltb}
+use lib.Bits.{bit_and, bit_or, and_le_r}
 use borrow.Author.Tests.{eqb-false}
 use Rattle.std.proofs.lemmas.Bool.{cases_Bool, cases_lt, cases_eq, cases_order}
 use Rattle.places.specs.Members.{has, minus, one}
 use Rattle.places.specs.Lowest.{First, lowest}
-use Rattle.places.proofs.Tables.{or-cases}
-use Rattle.places.proofs.Members.{has-none, has-or, has-minus, minus-sub, has-up-to}
+use Rattle.places.proofs.Tables.{or-cases, and-right}
+use Rattle.places.proofs.Members.{has-none, has-or, has-and, has-minus, minus-sub, has-up-to}
 use Rattle.places.proofs.Lowest.{lowest-first, clear-is, has-one}
 use Rattle.domain.specs.declared.kind.Domain as Domain
 use Rattle.domain.specs.Laws.{Within, BoundsLaws, HeightLaws}
 use Rattle.domain.specs.Counted.{In}
-use Rattle.domain.specs.Options.{none-some, some-is}
+use Rattle.std.proofs.lemmas.Option.{none-some, same_Some}
 use Rattle.engine.specs.declared.propagator.Propagator as Propagator
+use Rattle.engine.specs.declared.contradiction.Contradiction.{Contradiction}
 use Rattle.engine.specs.Rows.{item, Inside, Agree}
 use Rattle.engine.specs.Laws.{NarrowingLaws}
 use Rattle.engine.proofs.Rows.{inside-self, item-gone, item-within, items-same}
@@ -20,7 +21,7 @@ use Rattle.engine.proofs.Fitting.{rests-agreed}
 use Rattle.meaning.specs.Resting.{Rests, Widest, NoneRests}
 use Rattle.rules.specs.Listed.{but_newest}
 use Rattle.solver.specs.Waking.{Sharers}
-use Rattle.solver.specs.Fixpoint.{OfRules, OthersRest}
+use Rattle.solver.specs.Fixpoint.{OfRules, OthersRest, Fixpoint}
 
 true-false : true ≡ false → ⊥
 true-false e = let z : ◌≡◌ {A = ℕ} 0 1 = cc in omega arith
@@ -32,8 +33,8 @@ is-true false t = absurd t
 -- ---- rules by their number
 
 pub item-in : {X : Type 0} (xs : List X) (k : ℕ) (x : X) → item xs k ≡ Some x → In x xs
-item-in [] k x e = absurd (none-some e)
-item-in (y ∷ ys) zero x e = inl (sym (some-is e))
+item-in [] k x e = absurd (none-some _ e)
+item-in (y ∷ ys) zero x e = inl (sym (same_Some _ _ e))
 item-in (y ∷ ys) (suc k) x e = inr (item-in ys k x e)
 
 pub in-item : {X : Type 0} (xs : List X) (x : X) → In x xs → (k : ℕ) × (item xs k ≡ Some x)
@@ -133,6 +134,21 @@ module _ {C V W B R : Type 0} (kind : Domain.Ghosts C V W) (rule : Propagator.Gh
   pub holding-end : (rules : List R) (from row : List C) → Holding rules from row → OthersRest kind rule book rules 0 row → Widest kind rule book rules from row
   holding-end rules from row held others = record { inside = held.inside; rests = none-waits rules row others; widest = held.most }
 
+  -- where there is a contradiction, none rest
+  pub contradicted : {X : Type 0} (rules : List R) (from row : List C) (o : Result X Contradiction) → IsErr o → NoneRests kind rule book rules from → Fixpoint kind rule book rules from row o
+  contradicted rules from row (Ok x) i n = absurd (true-false (sym i))
+  contradicted rules from row (Err e) i n = n
+
+  and-true : (a b : Bool) → (a && b) ≡ false → b ≡ true → a ≡ false
+  and-true true b e f = sym f ∙ e
+  and-true false b e f = refl
+
+  -- a place that is no rule's may wait or not
+  pub others-among : (rules : List R) (n : ℕ) (row : List C) → OthersRest kind rule book rules n row → OthersRest kind rule book rules (bit_and n (2 ^ length rules - 1)) row
+  others-among rules n row others k r e z =
+      let here = has-up-to k (length rules) ∙ lt-ltb k (length rules) (item-within rules k r e) in
+      others k r e (and-true (has k n) _ (sym (has-and k n (2 ^ length rules - 1)) ∙ z) here)
+
   -- ---- where all wait, and where the newest does
 
   pub all-wait : (rules : List R) (row : List C) → OthersRest kind rule book rules (2 ^ length rules - 1) row
@@ -153,11 +169,11 @@ module _ {C V W B R : Type 0} (kind : Domain.Ghosts C V W) (rule : Propagator.Gh
       pub narrowed-holds : (row' : List C) → rule.narrowed book r row ≡ Some row' → Holding rules from row'
       narrowed-holds row' e = record {
         inside = inside-trans kind.allows row' row from ((laws r).inside row row' e) held.inside;
-        most = λ P a rests. let t = through P a rests in subst (Inside kind.allows P) (some-is (sym t.1 ∙ e)) t.2;
+        most = λ P a rests. let t = through P a rests in subst (Inside kind.allows P) (same_Some _ _ (sym t.1 ∙ e)) t.2;
       }
 
       pub refuted : rule.narrowed book r row ≡ None → NoneRests kind rule book rules from
-      refuted e P a rests = let t = through P a rests in none-some (sym e ∙ t.1)
+      refuted e P a rests = let t = through P a rests in none-some _ (sym e ∙ t.1)
 
     -- a rule that shares no cell of the row with another still rests after the other's firing
     rests-apart : (row row' : List C) (r s : R) → rule.narrowed book r row ≡ Some row' → ((i : ℕ) → i < length row → rule.names r i ≡ true → rule.names s i ≡ true → ⊥) →
@@ -185,7 +201,7 @@ module _ {C V W B R : Type 0} (kind : Domain.Ghosts C V W) (rule : Propagator.Gh
     module _ (rules : List R) (row : List C) (waiting k : ℕ) (r : R) (lowest-waits : First k waiting) (listed : item rules k ≡ Some r) (others : OthersRest kind rule book rules waiting row) where
       pub others-same : rule.narrowed book r row ≡ Some row → OthersRest kind rule book rules (minus waiting (lowest waiting)) row
       others-same rests j s e z = ⊎_elim
-          (λ q. subst (λ x. rule.narrowed book x row ≡ Some row) (some-is (sym listed ∙ sym (ap (item rules) q) ∙ e)) rests)
+          (λ q. subst (λ x. rule.narrowed book x row ≡ Some row) (same_Some _ _ (sym listed ∙ sym (ap (item rules) q) ∙ e)) rests)
           (others j s e)
           (taken-out waiting k j lowest-waits z)
 
@@ -195,7 +211,7 @@ module _ {C V W B R : Type 0} (kind : Domain.Ghosts C V W) (rule : Propagator.Gh
           let a = or-neither (has j (minus waiting (lowest waiting))) (has j wake) (sym (has-or j (minus waiting (lowest waiting)) wake) ∙ z) in
           let apart : (i : ℕ) → i < length row → rule.names r i ≡ true → rule.names s i ≡ true → ⊥ = λ i h m n. subst T a.1 (sharers.each j i s e h m n) in
           ⊎_elim
-          (λ q. let same : r ≡ s = some-is (sym listed ∙ sym (ap (item rules) q) ∙ e) in
+          (λ q. let same : r ≡ s = same_Some _ _ (sym listed ∙ sym (ap (item rules) q) ∙ e) in
           absurd (changed (nothing-named row row' r fired (λ i h m. apart i h m (subst (λ x. rule.names x i ≡ true) same m)))))
           (λ y. rests-apart row row' r s fired apart (others j s e y))
           (taken-out waiting k j lowest-waits a.0)
@@ -209,17 +225,9 @@ module _ {R : Type 0} (rules : List R) where
   pub more-rules : (n m : ℕ) → OfRules rules n → ((k : ℕ) → T (has k m) → k < length rules) → OfRules rules (bit_or n m)
   more-rules n m o p k t = or-cases (has k n) (has k m) (o k) (p k) (subst T (has-or k n m) t)
 
-  pub all-rules : OfRules rules (2 ^ length rules - 1)
-  all-rules k t = ltb-true k (length rules) (is-true (ltb k (length rules)) (subst T (has-up-to k (length rules)) t))
-
-  pub no-rule : OfRules rules 0
-  no-rule k t = absurd (subst T (has-none k) t)
-
-  pub newest-rule : (set : ℕ) → (1 ≤ length rules → set ≡ one (length rules)) → (length rules ≡ 0 → set ≡ 0) → OfRules rules set
-  newest-rule set some none k t = ⊎_elim
-      (λ e. absurd (subst T (ap (has k) (none e) ∙ has-none k) t))
-      (λ ne. let e = eqb→eq k (length rules - 1) (subst T (ap (has k) (some (omega (arith, ne))) ∙ has-one k (length rules - 1)) t) in omega (arith, ne))
-      (cases_eq (length rules) 0)
+  -- of any set, those of its places that are rules
+  pub among-rules : (n : ℕ) → OfRules rules (bit_and n (2 ^ length rules - 1))
+  among-rules n k t = ltb-true k (length rules) (is-true (ltb k (length rules)) (subst T (has-up-to k (length rules)) (and-right (has k n) _ (subst T (has-and k n (2 ^ length rules - 1)) t))))
 
 -- the measure falls where the row does
 pub turns-fall : (t u w v : ℕ) → t < u → w < 2 ^ 64 → t * 2 ^ 64 + w < u * 2 ^ 64 + v

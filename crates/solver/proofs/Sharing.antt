@@ -1,16 +1,14 @@
 -- The sets of rules that name a cell, and of those that share a cell with a rule.
-use Rattle.std.proofs.Common.{◌≡◌, ℕ, ◌+◌, ◌^◌, ◌<◌, ◌≤◌, Bool, true, false, ◌||◌, T, eqb, ◌≢◌, List, length, set, Some, sym, refl, ap, ◌∙◌, subst, ⊎_elim, arith, below_more, eq-eqb, ne_eqb}
+use Rattle.std.proofs.Common.{◌≡◌, ℕ, ◌+◌, ◌^◌, ◌<◌, ◌≤◌, Bool, true, false, ◌||◌, T, eqb, List, length, set, Some, sym, refl, ap, ◌∙◌, subst, ⊎_elim, arith, eq-eqb, ne_eqb}
 use lib.Bits.{bit_or}
 use Rattle.std.proofs.lemmas.Bool.{cases_lt}
-use Rattle.std.proofs.lemmas.List.{get_or-set_same, get_or-set_other}
 use Rattle.places.specs.Members.{has}
-use Rattle.places.specs.declared.PlaceSet.{PlaceSet}
 use Rattle.places.proofs.Tables.{or-cases, or-left, or-right}
 use Rattle.places.proofs.Members.{has-or, has-none}
 use Rattle.places.proofs.Lowest.{has-one}
 use Rattle.engine.specs.Rows.{item}
 use Rattle.engine.proofs.Rows.{item-gone}
-use Rattle.solver.specs.Waking.{named_by, Namers, Sharers, set_at}
+use Rattle.solver.specs.Waking.{named_by, Namers, Sharers}
 
 or-false : (b : Bool) → (b || false) ≡ b
 or-false true = refl
@@ -82,13 +80,3 @@ module _ {R : Type 0} (names : R → ℕ → Bool) (rules : List R) (r : R) wher
       only = so_far.only;
       each = λ k j s e h m m'. ⊎_elim (λ l. so_far.each k j s e l m m') (λ l. let q : i ≡ j = omega arith in absurd (false-true (sym n ∙ ap (names r) q ∙ m))) (cases_lt j i);
     }
-
--- ---- tables
-
--- a set found for place i is put there, and those below stay
-pub table-more : (P : ℕ → ℕ → Type 0) (table : List PlaceSet) (i : ℕ) (found : PlaceSet) → i < length table →
-    ((j : ℕ) → j < i → P j (set_at table j)) → P i found.bits → (j : ℕ) → j < i + 1 → P j (set_at (set table i found) j)
-table-more P table i found l below here =
-    below_more _ i
-    (λ j h. let ne : j ≢ i = omega arith in subst (P j) (sym (ap (λ s. s.bits) (get_or-set_other table i j found _ ne))) (below j h))
-    (subst (P i) (sym (ap (λ s. s.bits) (get_or-set_same table i found _ l))) here)

@@ -1,5 +1,5 @@
 -- The steps of the search, as its code takes them.
-use Rattle.std.proofs.Common.{◌≡◌, ℕ, zero, suc, ◌+◌, ◌<◌, true, false, ◌⊎◌, List, [], ◌∷◌, length, sym, refl, ap, ◌∙◌, subst, inl, inr, arith}
+use Rattle.std.proofs.Common.{◌≡◌, ℕ, zero, suc, ◌+◌, ◌<◌, ◌≤◌, true, false, ◌⊎◌, List, [], ◌∷◌, length, Err, sym, refl, ap, ◌∙◌, subst, inl, inr, arith}
 use Rattle.domain.specs.declared.kind.Domain as Domain
 use Rattle.domain.specs.declared.kind.Halves as Halves
 use Rattle.domain.specs.Laws.{BoundsLaws}
@@ -9,9 +9,13 @@ use Rattle.engine.specs.Laws.{NarrowingLaws}
 use Rattle.engine.proofs.Rows.{inside-self, rows-same}
 use Rattle.engine.proofs.Fitting.{rests-agreed}
 use Rattle.meaning.specs.Resting.{Rests, Widest, NoneRests}
-use Rattle.meaning.specs.Search.{change, FirstOpen, Ending, found, none, node, half, Seek, all-single, in-first, in-second, turn-back, child}
+use Rattle.meaning.specs.Search.{change, FirstOpen, Ending, found, none, node, half, Seek, all-single, no-cut-left, no-row-left, in-first, in-second, turn-back, child}
 use Rattle.solver.specs.Waking.{named_by, Namers}
 use Rattle.solver.specs.Fixpoint.{OthersRest}
+use Rattle.solver.specs.declared.node.Limits.{Limits}
+use Rattle.solver.specs.declared.node.Progress.{Progress}
+use Rattle.solver.specs.Nodes.{Looks}
+use Rattle.solver.specs.Endings as Endings
 use Rattle.solver.specs.Endings.{ending}
 use Rattle.solver.specs.Settling.{SearchedOn}
 use Rattle.solver.specs.declared.search.End.{End}
@@ -72,6 +76,15 @@ module _ {C V W B R : Type 0} (kind : Domain.Ghosts C V W) (halves : Halves.Ghos
       (OthersRest kind rule book rules waits P' → Sought k' d' P' e c) → Sought k d P e c
   of-half waits k k' d d' c P P' e q r s others told =
       subst (λ x. Sought x d P e c) q (subst (λ x. Sought k' x P e c) r (subst (λ x. Sought k' d' x e c) s (told (subst (OthersRest kind rule book rules waits) (sym s) others))))
+
+-- where no cell is to be cut, the search ends with the widest bounds that rest
+module _ {C V W B R : Type 0} (kind : Domain.Ghosts C V W) (halves : Halves.Ghosts C V W) (rule : Propagator.Ghosts R C B V W) (book : B) (rules : List R) (limits : Limits) (at : Progress) (waits : ℕ) (P Q : List C)
+    (few : at.cuts ≤ limits.cuts) (widest : OthersRest kind rule book rules waits P → Widest kind rule book rules P Q) where
+  pub looked : (e : End) → Looks kind.height limits at Q (Err e) → Endings.Sought kind halves rule book rules limits at waits P Q (record { end = e; cuts = at.cuts })
+  looked E.Found s = record { few = few; ended = λ o. child (widest o) (all-single s); kept = λ o _. inr (widest o) }
+  looked E.None s = absurd s
+  looked E.Spent s = record { few = few; ended = λ o. child (widest o) (no-cut-left s.0.0 s.0.1 s.1); kept = λ o _. inr (widest o) }
+  looked E.Deep s = record { few = few; ended = λ o. child (widest o) (no-row-left s.0.0 s.0.1 s.1 s.2); kept = λ o _. inr (widest o) }
 
 -- ---- from bounds that rest
 

@@ -1,8 +1,9 @@
 -- What a fixpoint answers, and what it starts from.
-use Rattle.std.specs.Prelude.{◌≡◌, ℕ, ◌<◌, Bool, true, false, T, List, length, Some}
+use Rattle.std.specs.Prelude.{◌≡◌, ℕ, ◌<◌, false, T, List, length, Some, Ok, Err, Result}
 use Rattle.places.specs.Members.{has}
 use Rattle.domain.specs.declared.kind.Domain as Domain
 use Rattle.engine.specs.declared.propagator.Propagator as Propagator
+use Rattle.engine.specs.declared.contradiction.Contradiction.{Contradiction}
 use Rattle.engine.specs.Rows.{item}
 use Rattle.meaning.specs.Resting.{Widest, NoneRests}
 
@@ -15,7 +16,7 @@ module _ {C V T B R : Type 0} (kind : Domain.Ghosts C V T) (rule : Propagator.Gh
   abbrev pub OthersRest : ℕ → List C → Type 0
   OthersRest waiting P = (k : ℕ) (r : R) → item rules k ≡ Some r → has k waiting ≡ false → rule.narrowed book r P ≡ Some P
 
-  -- true: the bounds have come to the widest that rest; false: none rest
-  abbrev pub Fixpoint : List C → List C → Bool → Type 0
-  Fixpoint from out true = Widest kind rule book rules from out
-  Fixpoint from out false = NoneRests kind rule book rules from
+  -- the bounds have come to the widest that rest; or there is a contradiction, where none rest
+  abbrev pub Fixpoint : {X : Type 0} → List C → List C → Result X Contradiction → Type 0
+  Fixpoint from out (Ok x) = Widest kind rule book rules from out
+  Fixpoint from out (Err e) = NoneRests kind rule book rules from

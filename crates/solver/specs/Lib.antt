@@ -2,6 +2,5 @@
 pub mod Waking
 pub mod Fixpoint
 pub mod Nodes
-pub mod Stacks
 pub mod Endings
 pub mod Settling

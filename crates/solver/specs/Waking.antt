@@ -3,7 +3,6 @@ use Rattle.std.specs.Prelude.{◌≡◌, ℕ, ◌<◌, Bool, true, false, T, Lis
 use Rattle.places.specs.Members.{has}
 use Rattle.places.specs.declared.PlaceSet.{PlaceSet}
 use Rattle.engine.specs.Rows.{item}
-use Rattle.solver.specs.declared.waking.Wakes.{Wakes}
 
 -- does the rule, if there is one, name the cell?
 abbrev pub named_by : {R : Type 0} → (R → ℕ → Bool) → ℕ → Option R → Bool
@@ -31,7 +30,3 @@ module _ {R : Type 0} (names : R → ℕ → Bool) (rules : List R) (cells : ℕ
   -- the table of rules says who shares a cell with a rule
   abbrev pub RuleTable : List PlaceSet → Type 0
   RuleTable table = (k : ℕ) (r : R) → item rules k ≡ Some r → Sharers names rules cells r (set_at table k)
-
-  pub record Wired (wakes : Wakes) : Type 0 where
-    pub by-cell : CellTable wakes.by_cell
-    pub by-rule : RuleTable wakes.by_rule

@@ -2,10 +2,11 @@
 #![tactic(auto)]
 
 pub mod fixpoint;
+mod naming;
+mod network;
 mod node;
 pub mod search;
 mod stack;
-mod waking;
 
 pub use fixpoint::{rest, rest_newest};
 pub use search::{End, Settled, settle};

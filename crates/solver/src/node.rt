@@ -1,9 +1,9 @@
 //! One node of the search tree: how far the search has come there, and what is to be made of it.
-ghost use Rattle.std.specs.Prelude.{◌≡◌, ◌+◌, ◌<◌, ◌≤◌, length, ◌≢◌};
-ghost use Rattle.engine.specs.Rows.{AllSingle};
-ghost use Rattle.meaning.specs.Search.{FirstOpen};
+ghost use Rattle.std.specs.Prelude.{◌≡◌, ◌+◌, ◌<◌, ◌≤◌, ◌==◌, not};
+ghost use Rattle.std.specs.List.{position};
 ghost use Rattle.solver.specs.Nodes.{Looks};
 
+use super::search::End;
 use domain::Domain;
 
 /// How many cuts, and how many rows above the first, a search may use.
@@ -20,78 +20,79 @@ pub struct Progress {
     pub depth: usize,
 }
 
-impl Progress {
-    /// At the root.
-    pub fn start() -> Progress
-        ensures cuts { result.cuts ≡ 0 }
-        ensures depth { result.depth ≡ 0 }
-    {
-        Progress { cuts: 0, depth: 0 }
-    }
-
-    /// At the first half, once a cell is cut.
-    pub fn first(self, limits: Limits) -> Progress
-        requires cuts { self.cuts < limits.cuts }
-        requires depth { self.depth < limits.rows }
-        ensures cuts { result.cuts ≡ self.cuts + 1 }
-        ensures depth { result.depth ≡ self.depth + 1 }
-    {
-        Progress {
-            cuts: self.cuts + 1,
-            depth: self.depth + 1,
-        }
-    }
-
-    /// At the second half, when the first has brought the cuts to so many.
-    pub fn second(self, cuts: usize, limits: Limits) -> Progress
-        requires { self.depth < limits.rows }
-        ensures cuts { result.cuts ≡ cuts }
-        ensures depth { result.depth ≡ self.depth + 1 }
-    {
-        Progress {
-            cuts,
-            depth: self.depth + 1,
-        }
-    }
-}
-
-/// What is made of a node: all its cells are single, no cut is left, no row is left, or the cell to cut.
+/// How far a search has come within its limits.
 #[derive(Clone, Copy)]
-pub enum Node {
-    Single,
-    Spent,
-    Deep,
-    Cut(usize),
+pub struct Budget {
+    pub limits: Limits,
+    pub at: Progress,
+    ghost cuts: { at.cuts ≤ limits.cuts },
+    ghost depth: { at.depth ≤ limits.rows },
 }
 
-// The first cell that is not single, or the length.
-fn first_open<C: Domain>(row: &[C]) -> usize
-    ensures all { result ≡ length row.now → AllSingle C.Domain.height row.now }
-    ensures here { (result ≢ length row.now) → FirstOpen C.Domain.height row.now result }
+// The first cell that is not single.
+fn first_open<C: Domain>(row: &[C]) -> Option<usize>
+    ensures { result ≡ position (λ cell. not (C.Domain.height cell == 0)) row.now }
 {
-    for i in 0..row.len() {
-        if !row[i].is_single() {
-            return i;
+    row.iter().position(|cell| !cell.is_single())
+}
+
+impl Budget {
+    /// At the root.
+    pub fn new(limits: Limits) -> Budget
+        ensures limits { result.limits ≡ limits }
+        ensures cuts { result.at.cuts ≡ 0 }
+        ensures depth { result.at.depth ≡ 0 }
+    {
+        Budget {
+            limits,
+            at: Progress { cuts: 0, depth: 0 },
         }
     }
-    row.len()
-}
 
-/// What is made of a row at rest.
-pub fn look<C: Domain>(row: &[C], limits: Limits, at: Progress) -> Node
-    requires cuts { at.cuts ≤ limits.cuts }
-    requires depth { at.depth ≤ limits.rows }
-    ensures { Looks C.Domain.height limits at row.now result }
-{
-    let i = first_open(row);
-    if i == row.len() {
-        return Node::Single;
+    /// One row deeper, when so many cuts are made.
+    pub fn deeper(self, cuts: usize) -> Budget
+        requires cuts { cuts ≤ self.limits.cuts }
+        requires depth { self.at.depth < self.limits.rows }
+        ensures limits { result.limits ≡ self.limits }
+        ensures cuts { result.at.cuts ≡ cuts }
+        ensures depth { result.at.depth ≡ self.at.depth + 1 }
+    {
+        Budget {
+            limits: self.limits,
+            at: Progress {
+                cuts,
+                depth: self.at.depth + 1,
+            },
+        }
     }
-    if at.cuts == limits.cuts {
-        return Node::Spent;
+
+    // Is no cut left?
+    fn is_spent(self) -> bool
+        ensures { result ≡ (self.at.cuts == self.limits.cuts) }
+    {
+        self.limits.cuts == self.at.cuts
     }
-    if at.depth == limits.rows {
-        return Node::Deep;
+
+    // Is no row left?
+    fn is_deep(self) -> bool
+        ensures { result ≡ (self.at.depth == self.limits.rows) }
+    {
+        self.limits.rows == self.at.depth
     }
-    Node::Cut(i)
+
+    /// The cell to cut in a row at rest, or how the search ends there.
+    pub fn look<C: Domain>(self, row: &[C]) -> Result<usize, End>
+        ensures { Looks C.Domain.height self.limits self.at row.now result }
+    {
+        let Some(i) = first_open(row) else {
+            return Err(End::Found);
+        };
+        if self.is_spent() {
+            return Err(End::Spent);
+        }
+        if self.is_deep() {
+            return Err(End::Deep);
+        }
+        Ok(i)
+    }
 }

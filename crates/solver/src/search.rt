@@ -1,19 +1,16 @@
 //! The search over the caller's stack.
 ghost use Rattle.std.specs.Prelude.{◌≡◌, ◌+◌, ◌-◌, ◌*◌, ◌≤◌, length, take, drop, ◌≢◌};
 ghost use Rattle.rules.specs.Listed.{listed};
-ghost use Rattle.solver.specs.Waking.{Wired};
-ghost use Rattle.solver.specs.Fixpoint.{OfRules, OthersRest, Fixpoint};
-ghost use Rattle.solver.specs.Nodes.{Looks};
+ghost use Rattle.solver.specs.Fixpoint.{OthersRest, Fixpoint};
 ghost use Rattle.solver.specs.Endings.{Sought};
 ghost use Rattle.solver.specs.Settling.{rows_above, SearchedOn, Settles};
 ghost use Rattle.solver.specs.declared.search.End.TheVariants.{Found};
 
-use super::fixpoint::rest_waiting;
-use super::node::{Limits, Node, Progress, look};
-use super::stack::{Side, copy_down, lay, put_half};
-use super::waking::Wakes;
+use super::network::Network;
+use super::node::{Budget, Limits};
+use super::stack::put_cell;
 use domain::{Domain, Halves};
-use engine::Propagator;
+use engine::{Contradiction, Propagator};
 use places::PlaceSet;
 use rules::Rules;
 
@@ -33,32 +30,12 @@ pub struct Settled {
     pub cuts: usize,
 }
 
-// Brings the first row of the stack to rest.
-fn rest_row<C: Domain, B, R: Propagator<C, B>>(
-    book: &B,
-    rules: &[R],
-    wakes: &Wakes,
-    waits: PlaceSet,
-    n: usize,
-    stack: &mut [C],
-) -> bool
-    requires few { length rules.now ≤ 64 }
-    requires wired { Wired R.Propagator.names rules.now n wakes.now }
-    requires waits { OfRules rules.now waits.bits }
-    requires room { n ≤ length stack.old }
-    ensures { OthersRest C.Domain R.Propagator book.now rules.now waits.bits (take n stack.old) → Fixpoint C.Domain R.Propagator book.now rules.now (take n stack.old) (take n stack.new) result }
+// Both halves of a cell, the first before the second.
+fn halves<C: Halves>(cell: C) -> (C, C)
+    ensures first { result.0 ≡ C.Halves.first cell }
+    ensures second { result.1 ≡ C.Halves.second cell }
 {
-    rest_waiting(book, rules, wakes, waits, &mut stack[..n])
-}
-
-// What is made of the first row of the stack.
-fn look_row<C: Domain>(stack: &[C], n: usize, limits: Limits, at: Progress) -> Node
-    requires cuts { at.cuts ≤ limits.cuts }
-    requires depth { at.depth ≤ limits.rows }
-    requires room { n ≤ length stack.now }
-    ensures { Looks C.Domain.height limits at (take n stack.now) result }
-{
-    look(&stack[..n], limits, at)
+    (cell.first_half(), cell.second_half())
 }
 
 // Brings the next row to the first where it is what was found.
@@ -67,83 +44,49 @@ fn lift<C: Copy>(stack: &mut [C], n: usize, end: End)
     ensures found { end ≡ Found → take n stack.new ≡ take n (drop n stack.old) }
     ensures other { (end ≢ Found) → take n stack.new ≡ take n stack.old }
 {
-    match end {
-        End::Found => copy_down(stack, n),
-        End::None => {}
-        End::Spent => {}
-        End::Deep => {}
+    if end == End::Found {
+        stack.copy_within(n..n + n, 0);
     }
 }
 
-// Searches from the first row of the stack, a half that is not yet at rest; the rows behind it are free.
-fn seek<C: Halves, B, R: Propagator<C, B>>(
-    book: &B,
-    rules: &[R],
-    wakes: &Wakes,
-    waits: PlaceSet,
-    limits: Limits,
-    at: Progress,
-    n: usize,
-    stack: &mut [C],
-) -> Settled
-    requires rules { length rules.now ≤ 64 }
-    requires wired { Wired R.Propagator.names rules.now n wakes.now }
-    requires waits { OfRules rules.now waits.bits }
-    requires cuts { at.cuts ≤ limits.cuts }
-    requires depth { at.depth ≤ limits.rows }
-    requires room { (limits.rows - at.depth + 1) * n ≤ length stack.old }
-    ensures { Sought C.Domain C.Halves.own R.Propagator book.now rules.now limits at waits.bits (take n stack.old) (take n stack.new) result }
-{
-    if !rest_row(book, rules, wakes, waits, n, stack) {
-        return Settled {
-            end: End::None,
-            cuts: at.cuts,
-        };
+impl<C: Halves, B, R: Propagator<C, B>> Network<'_, C, B, R> {
+    // Brings the first row of the stack to rest.
+    fn rest_row(&self, waits: PlaceSet, stack: &mut [C]) -> Result<(), Contradiction>
+        requires { self.now.naming.cells ≤ length stack.old }
+        ensures { OthersRest C.Domain R.Propagator self.now.book.now (listed self.now.naming.rules.now) waits.bits (take self.now.naming.cells stack.old) → Fixpoint C.Domain R.Propagator self.now.book.now (listed self.now.naming.rules.now) (take self.now.naming.cells stack.old) (take self.now.naming.cells stack.new) result }
+    {
+        self.rest(waits, &mut stack[..self.naming.cells])
     }
-    match look_row(stack, n, limits, at) {
-        Node::Single => Settled {
-            end: End::Found,
-            cuts: at.cuts,
-        },
-        Node::Spent => Settled {
-            end: End::Spent,
-            cuts: at.cuts,
-        },
-        Node::Deep => Settled {
-            end: End::Deep,
-            cuts: at.cuts,
-        },
-        Node::Cut(i) => {
-            let woken = wakes.after_cell::<C, B, R>(rules, n, i);
-            put_half(stack, n, i, Side::First);
-            let one = seek(
-                book,
-                rules,
-                wakes,
-                woken,
-                limits,
-                at.first(limits),
-                n,
-                &mut stack[n..],
-            );
-            if one.end != End::None {
-                lift(stack, n, one.end);
-                return one;
-            }
-            put_half(stack, n, i, Side::Second);
-            let two = seek(
-                book,
-                rules,
-                wakes,
-                woken,
-                limits,
-                at.second(one.cuts, limits),
-                n,
-                &mut stack[n..],
-            );
-            lift(stack, n, two.end);
-            two
+
+    // Searches from the first row of the stack, a half that is not yet at rest; the rows behind it are free.
+    fn seek(&self, waits: PlaceSet, budget: Budget, stack: &mut [C]) -> Settled
+        requires { (budget.limits.rows - budget.at.depth + 1) * self.now.naming.cells ≤ length stack.old }
+        ensures { Sought C.Domain C.Halves.own R.Propagator self.now.book.now (listed self.now.naming.rules.now) budget.limits budget.at waits.bits (take self.now.naming.cells stack.old) (take self.now.naming.cells stack.new) result }
+    {
+        let n = self.naming.cells;
+        let cuts = budget.at.cuts;
+        let Ok(()) = self.rest_row(waits, stack) else {
+            return Settled {
+                end: End::None,
+                cuts,
+            };
+        };
+        let i = match budget.look(&stack[..n]) {
+            Ok(i) => i,
+            Err(end) => return Settled { end, cuts },
+        };
+        let woken = self.naming.namers(i);
+        let (first, second) = halves(stack[i]);
+        put_cell(stack, n, i, first);
+        let one = self.seek(woken, budget.deeper(cuts + 1), &mut stack[n..]);
+        if one.end != End::None {
+            lift(stack, n, one.end);
+            return one;
         }
+        put_cell(stack, n, i, second);
+        let two = self.seek(woken, budget.deeper(one.cuts), &mut stack[n..]);
+        lift(stack, n, two.end);
+        two
     }
 }
 
@@ -159,33 +102,22 @@ fn rows_above(long: usize, n: usize) -> usize
 // Lays the cells in the first row of a stack that has room for one, and searches from there.
 fn search_from<C: Halves, B, R: Propagator<C, B>>(
     book: &B,
-    rules: &[R],
+    rules: &Rules<R>,
     cells: &[C],
     cut_limit: usize,
     stack: &mut [C],
 ) -> Settled
-    requires rules { length rules.now ≤ 64 }
     requires some { 1 ≤ length cells.now }
     requires room { length cells.now ≤ length stack.old }
-    ensures { SearchedOn C.Domain C.Halves.own R.Propagator book.now rules.now cells.now cut_limit stack.old stack.new result }
+    ensures { SearchedOn C.Domain C.Halves.own R.Propagator book.now (listed rules.now) cells.now cut_limit stack.old stack.new result }
 {
     let n = cells.len();
     let limits = Limits {
         cuts: cut_limit,
         rows: rows_above(stack.len(), n),
     };
-    let wakes = Wakes::new::<C, B, R>(rules, n);
-    lay(stack, cells);
-    seek(
-        book,
-        rules,
-        &wakes,
-        PlaceSet::empty(),
-        limits,
-        Progress::start(),
-        n,
-        stack,
-    )
+    stack[..n].copy_from_slice(cells);
+    Network::new(book, rules, n).seek(PlaceSet::empty(), Budget::new(limits), stack)
 }
 
 /// Searches for single cells within these, by cutting cells in halves. The stack gives a row to each depth: the cells are laid in the first,
@@ -209,5 +141,5 @@ pub fn settle<C: Halves, B, R: Propagator<C, B>>(
             cuts: 0,
         });
     }
-    Some(search_from(book, rules.as_slice(), cells, cut_limit, stack))
+    Some(search_from(book, rules, cells, cut_limit, stack))
 }

@@ -26,13 +26,4 @@ returns-in-Declare g c asked h =
 pub returns-in-State : goal.returns-in-State
 returns-in-State g c asked h =
     serves-state (laws g) g.E.Entered (told_of c.args.sheet.now) (told_of c.state.new.self) (bounds_of c.args.sheet.now) (bounds_of c.state.new.self) c.args.memory.now c.state.new.spare
-    c.in-State.line c.in-State.field-2 c.in-State.rule c.state.result c.args.call (answer_of c.taken-in-State.result) c.in-State.is asked c.taken-in-State.ensures c.state.ensures h
-
-pub returns-in-Ask : goal.returns-in-Ask
-returns-in-Ask g c asked h =
-    serves-ask (laws g) g.E.Entered (told_of c.args.sheet.now) (bounds_of c.args.sheet.now) c.in-Ask.cell c.ask.result c.args.call (answer_of c.shown.result) c.in-Ask.is c.shown.ensures c.ask.ensures h
-
-pub returns-in-Settle : goal.returns-in-Settle
-returns-in-Settle g c asked =
-    serves-settle (laws g) g.E.Entered (told_of c.args.sheet.now) (bounds_of c.args.sheet.now) c.args.memory.now c.settled.new.stack
-    c.in-Settle.line c.in-Settle.limit c.in-Settle.field-2 c.args.call c.settled.result c.in-Settle.is asked c.settled.ensures
+    c.in-State.line c.in-State.spare c.in-State.rule c.state.result c.args.call (answer_of c.taken-in-State.result) c.in-State.is asked c.taken-in-State.ensures c.state.ensures h

@@ -1,6 +1,0 @@
--- The set has the rules that share one of the cells seen so far.
-use Rattle.solver.specs.Waking.{Sharers}
-use Rattle.solver.proofs.waking.sharing.Given as goal
-
-abbrev pub invariant-loop-cell : goal.invariant-loop-cell
-invariant-loop-cell g l = Sharers g.R.Propagator.names l.rules l.cell l.rule l.set.bits
