@@ -47,6 +47,7 @@ fn nameable(field: usize) -> u8
 fn check_fits(line: u32, misfit: Option<Misfit>) -> Result<(), Fault>
     ensures { Denies (misfit_fault line misfit) result }
 {
+    // a match: no method turns what is found into an error
     match misfit {
         Some(m) => Err(Fault::new(refusal_of(m.reason), line, nameable(m.field))),
         None => Ok(()),

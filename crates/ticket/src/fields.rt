@@ -21,6 +21,7 @@ pub struct Fields<'a> {
     pub rest: Option<&'a [u8]>,
 }
 
+// The clauses name the next field by `slice_index_or (ahead self.old) 0 []` each: a word of our own for it would only have to be looked up.
 impl<'a> Fields<'a> {
     /// The next field; past the last, an empty one.
     pub fn take(&mut self) -> &'a [u8]

@@ -103,7 +103,7 @@ fn read_settle(mut fields: Fields) -> Result<Entry, Fault>
     Ok(Entry::Settle(fields.number(2)?))
 }
 
-/// The fields after the letter.
+/// The fields after the letter. The dialect goes beside them: only words and letters are of a dialect, fields are not.
 fn read_body(dialect: Dialect, letter: Letter, fields: Fields) -> Result<Entry, Fault>
     ensures { Gives said result (body_at dialect fields.entry.line (ahead fields.entry) letter) }
 {
