@@ -9,8 +9,8 @@ pub mod listing;
 /// The most rules that a list holds.
 pub const CAPACITY: usize = 64;
 
-/// At most 64 rules. Room for all is reserved at the start, so that taking one cannot fail for want of memory. It is a `Vec` of its own, as each
-/// table here is by a rule of the project.
+/// At most 64 rules. Room for all is reserved at the start, so that taking one cannot fail for want of memory; each table of a sheet is such a
+/// `Vec` of its own.
 #[derive(Drop)]
 pub struct Rules<R> {
     items: Vec<R>,

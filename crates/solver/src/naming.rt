@@ -57,7 +57,7 @@ fn table_of_cells<C: Domain, B, R: Propagator<C, B>>(
 
 impl<'a, C: Domain, B, R: Propagator<C, B>> Naming<'a, C, B, R> {
     /// Of these rules.
-    pub fn new(rules: &'a Rules<R>, cells: usize) -> Self
+    pub(super) fn new(rules: &'a Rules<R>, cells: usize) -> Self
         ensures rules { listed result.rules.now ≡ listed rules.now }
         ensures cells { result.cells ≡ cells }
     {
@@ -71,7 +71,7 @@ impl<'a, C: Domain, B, R: Propagator<C, B>> Naming<'a, C, B, R> {
     }
 
     /// The rules that name the cell, from the table, or found anew where the cell is past it.
-    pub fn namers(&self, cell: usize) -> PlaceSet
+    pub(super) fn namers(&self, cell: usize) -> PlaceSet
         requires { cell < self.now.cells }
         ensures { Namers R.Propagator.names (listed self.now.rules.now) cell result.bits }
     {
@@ -83,7 +83,7 @@ impl<'a, C: Domain, B, R: Propagator<C, B>> Naming<'a, C, B, R> {
     }
 
     /// The rules that share a cell with this one.
-    pub fn sharers(&self, rule: R) -> PlaceSet
+    pub(super) fn sharers(&self, rule: R) -> PlaceSet
         ensures { Sharers R.Propagator.names (listed self.now.rules.now) self.now.cells rule result.bits }
     {
         let mut set = PlaceSet::empty();

@@ -32,7 +32,7 @@ fn table_of_rules<C: Domain, B, R: Propagator<C, B>>(naming: &Naming<'_, C, B, R
 
 impl<'a, C: Domain, B, R: Propagator<C, B>> Network<'a, C, B, R> {
     /// Of these rules, over rows of so many cells.
-    pub fn new(book: &'a B, rules: &'a Rules<R>, cells: usize) -> Self
+    pub(super) fn new(book: &'a B, rules: &'a Rules<R>, cells: usize) -> Self
         ensures book { result.book.now ≡ book.now }
         ensures rules { listed result.naming.rules.now ≡ listed rules.now }
         ensures cells { result.naming.cells ≡ cells }
@@ -47,7 +47,7 @@ impl<'a, C: Domain, B, R: Propagator<C, B>> Network<'a, C, B, R> {
     }
 
     /// The rules that wait after this one has narrowed the row.
-    pub fn woken(&self, waiting: PlaceSet, rule: usize) -> PlaceSet
+    pub(super) fn woken(&self, waiting: PlaceSet, rule: usize) -> PlaceSet
         requires { rule < 64 }
         ensures { result.bits ≡ union waiting.bits (set_at self.now.by_rule rule) }
     {

@@ -38,7 +38,7 @@ fn first_open<C: Domain>(row: &[C]) -> Option<usize>
 
 impl Budget {
     /// At the root.
-    pub fn new(limits: Limits) -> Budget
+    pub(super) fn new(limits: Limits) -> Budget
         ensures limits { result.limits ≡ limits }
         ensures cuts { result.at.cuts ≡ 0 }
         ensures depth { result.at.depth ≡ 0 }
@@ -50,7 +50,7 @@ impl Budget {
     }
 
     /// One row deeper, when so many cuts are made.
-    pub fn deeper(self, cuts: usize) -> Budget
+    pub(super) fn deeper(self, cuts: usize) -> Budget
         requires cuts { cuts ≤ self.limits.cuts }
         requires depth { self.at.depth < self.limits.rows }
         ensures limits { result.limits ≡ self.limits }
@@ -81,7 +81,7 @@ impl Budget {
     }
 
     /// The cell to cut in a row at rest, or how the search ends there.
-    pub fn look<C: Domain>(self, row: &[C]) -> Result<usize, End>
+    pub(super) fn look<C: Domain>(self, row: &[C]) -> Result<usize, End>
         ensures { Looks C.Domain.height self.limits self.at row.now result }
     {
         let Some(i) = first_open(row) else {

@@ -1,9 +1,9 @@
-//! Rows on the caller's stack, as long as one another: the memory of a search is the caller's, by the rule of the calls. A search sees the row
-//! that it is at first, and the next row behind it.
+//! Rows of one length on the stack that the caller lends, so that no search asks for memory. A search sees the row that it is at first, and
+//! the next row behind it.
 ghost use Rattle.std.specs.Prelude.{◌≡◌, ◌+◌, ◌<◌, ◌≤◌, length, take, drop, set};
 
 /// Makes the next row the first with this cell put in at place i.
-pub fn put_cell<C: Copy>(stack: &mut [C], n: usize, i: usize, cell: C)
+pub(super) fn put_cell<C: Copy>(stack: &mut [C], n: usize, i: usize, cell: C)
     requires room { n + n ≤ length stack.old }
     requires within { i < n }
     ensures kept { take n stack.new ≡ take n stack.old }
