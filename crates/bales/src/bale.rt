@@ -18,6 +18,10 @@ impl Range for Places {
 
     const HIGH: u32 = 99;
 
+    const NAME: &'static str = "Place";
+
+    const FIELD: &'static str = "number";
+
     ghost LOW = { 1 };
 
     ghost HIGH = { 99 };
@@ -29,6 +33,10 @@ impl Range for Weights {
     const LOW: u32 = 1;
 
     const HIGH: u32 = 1000;
+
+    const NAME: &'static str = "Weight";
+
+    const FIELD: &'static str = "pounds";
 
     ghost LOW = { 1 };
 

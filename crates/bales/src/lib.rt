@@ -7,4 +7,4 @@ pub mod ranged;
 
 pub use bale::{Place, Places, Weight, Weights};
 pub use list::{Bale, ClosedList, OpenList};
-pub use ranged::{Range, Ranged};
+pub use ranged::{FromNumber, Range, Ranged};

@@ -7,11 +7,34 @@ use std::alloc::AllocError;
 use std::fmt;
 use std::marker::PhantomData;
 
+/// A type of numbers from `low` to `high`; no number of a ticket is above 1,000,000.
+pub trait FromNumber: Copy {
+    ghost low: { ℕ };
+
+    ghost high: { ℕ };
+
+    /// The number that a value stands for.
+    ghost figure: { Self → ℕ };
+
+    /// The value of a number, or nothing where the number is out of range.
+    fn from_number(number: u32) -> Option<Self>
+    where
+        Self: Sized,
+        ensures { InRange low high figure number result };
+
+    ghost small: { high ≤ 1000000 };
+}
+
 /// What a number counts, and from where to where it may go; no number of a ticket is above 1,000,000.
 pub trait Range: Copy {
     const LOW: u32;
 
     const HIGH: u32;
+
+    /// How `{:?}` calls a number of the range, and what it counts.
+    const NAME: &'static str;
+
+    const FIELD: &'static str;
 
     ghost LOW: { ℕ };
 
@@ -21,7 +44,7 @@ pub trait Range: Copy {
 }
 
 /// A number of a range.
-#[derive_where(Copy, PartialEq, Eq, Debug)]
+#[derive_where(Copy, PartialEq, Eq)]
 pub struct Ranged<R: Range> {
     number: u32,
     of: PhantomData<R>,
@@ -62,10 +85,52 @@ impl<R: Range> Ranged<R> {
     }
 }
 
+impl<R: Range> FromNumber for Ranged<R> {
+    ghost low = { R.LOW };
+
+    ghost high = { R.HIGH };
+
+    ghost figure = { λ x. x.number };
+
+    ghost small = { R.small };
+
+    fn from_number(number: u32) -> Option<Ranged<R>> {
+        Ranged::from_number(number)
+    }
+}
+
+// By hand: a derive would call all ranges by one name.
+impl<R: Range> fmt::Debug for Ranged<R> {
+    fn fmt<W: fmt::Write>(&self, f: &mut fmt::Formatter<W>) -> fmt::Result {
+        f.debug_struct(R::NAME)
+            .field(R::FIELD, &self.number)
+            .finish()
+    }
+}
+
 impl<R: Range> fmt::Display for Ranged<R> {
     ghost output = { λ x. Some (decimal x.number) };
 
     fn fmt<W: fmt::Write>(&self, f: &mut fmt::Formatter<W>) -> fmt::Result {
         write!(f, "{}", self.number)
+    }
+}
+
+#[cfg(test)]
+mod tests {
+    use super::super::bale::{Place, Weight};
+    use std::test::Fail;
+
+    #[test]
+    fn is_shown_by_its_name(rt: HostRuntime) -> Result<(), Fail> {
+        let (Some(place), Some(weight)) = (Place::from_number(7), Weight::from_number(480)) else {
+            return Err(Fail::new("not in range"));
+        };
+        let shown = format!(in rt.alloc(); "{place:?} {weight:?}")?;
+        assert_eq!(rt;
+            shown.as_str(),
+            "Place { number: 7 } Weight { pounds: 480 }"
+        );
+        Ok(())
     }
 }

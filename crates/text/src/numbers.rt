@@ -5,7 +5,7 @@ ghost use Rattle.std.specs.Option.{option_map};
 ghost use Rattle.text.specs.Answers.{Gives};
 ghost use Rattle.text.specs.Numbers.{digits_on, number_of, within, number_at};
 
-use bales::{Range, Ranged};
+use bales::FromNumber;
 use fault::{Fault, Refusal, Spot};
 
 /// No number of a ticket is above this.
@@ -38,16 +38,16 @@ fn parse_number(text: &[u8]) -> Option<u32>
     }
 }
 
-/// A number of a range, if the text is one.
-pub fn parse_ranged<R: Range>(text: &[u8]) -> Option<Ranged<R>>
-    ensures { option_map (λ x. x.number) result ≡ within R.Range.LOW R.Range.HIGH (number_of text.now) }
+/// A number of a type with a range, if the text is one.
+pub fn parse_ranged<T: FromNumber>(text: &[u8]) -> Option<T>
+    ensures { option_map T.FromNumber.figure result ≡ within T.FromNumber.low T.FromNumber.high (number_of text.now) }
 {
-    Ranged::from_number(parse_number(text)?)
+    T::from_number(parse_number(text)?)
 }
 
-/// A number of a range; anything else is refused as a bad number at this spot.
-pub fn read_ranged<R: Range>(text: &[u8], spot: Spot) -> Result<Ranged<R>, Fault>
-    ensures { Gives (λ x. x.number) result (number_at R.Range.LOW R.Range.HIGH spot.line spot.field text.now) }
+/// A number of a type with a range; anything else is refused as a bad number at this spot.
+pub fn read_ranged<T: FromNumber>(text: &[u8], spot: Spot) -> Result<T, Fault>
+    ensures { Gives T.FromNumber.figure result (number_at T.FromNumber.low T.FromNumber.high spot.line spot.field text.now) }
 {
     parse_ranged(text).ok_or(spot.refuse(Refusal::BadNumber))
 }

@@ -27,5 +27,12 @@ pub fn cut(text: &[u8], separator: u8) -> (&[u8], Option<&[u8]>)
 pub fn count_parts(text: &[u8], separator: u8) -> usize
     ensures { result ≡ length (parts_of separator text.now) }
 {
-    1 + text.iter().filter(|byte| **byte == separator).count()
+    // a loop: the library's count of a filter takes twice the time, and a sum's goal stayed open
+    let mut count = 1;
+    for byte in text {
+        if *byte == separator {
+            count += 1;
+        }
+    }
+    count
 }

@@ -12,14 +12,14 @@ ended-more : (p : List ℕ) (ps : List (List ℕ)) → 0 < length ps → ended (
 ended-more p [] some = absurd (omega arith)
 ended-more p (q ∷ qs) some = refl
 
-lines-cut : (s p rest : List ℕ) → parts_of 10 s ≡ p ∷ parts_of 10 rest → lines_of s ≡ p ∷ lines_of rest
+pub lines-cut : (s p rest : List ℕ) → parts_of 10 s ≡ p ∷ parts_of 10 rest → lines_of s ≡ p ∷ lines_of rest
 lines-cut s p rest e = ap ended e ∙ ended-more p (parts_of 10 rest) (parts-some 10 rest)
 
 last-some : (p : List ℕ) → 0 < length p → last_line p ≡ p ∷ []
 last-some [] some = absurd (omega arith)
 last-some (c ∷ cs) some = refl
 
-lines-last : (s p : List ℕ) → parts_of 10 s ≡ p ∷ [] → s ≡ p → 0 < length s → lines_of s ≡ p ∷ []
+pub lines-last : (s p : List ℕ) → parts_of 10 s ≡ p ∷ [] → s ≡ p → 0 < length s → lines_of s ≡ p ∷ []
 lines-last s p e w some = ap ended e ∙ last-some p (omega (arith, ap length w))
 
 -- the first line of a text that is cut at its first byte 10, and what follows

@@ -62,6 +62,10 @@ impl Range for CellNumbers {
 
     const HIGH: u32 = 99;
 
+    const NAME: &'static str = "CellNumber";
+
+    const FIELD: &'static str = "number";
+
     ghost LOW = { 1 };
 
     ghost HIGH = { 99 };
@@ -74,6 +78,10 @@ impl Range for Ends {
 
     const HIGH: u32 = 1_000_000;
 
+    const NAME: &'static str = "End";
+
+    const FIELD: &'static str = "value";
+
     ghost LOW = { 0 };
 
     ghost HIGH = { 1000000 };
@@ -85,6 +93,10 @@ impl Range for CutLimits {
     const LOW: u32 = 0;
 
     const HIGH: u32 = 1_000_000;
+
+    const NAME: &'static str = "CutLimit";
+
+    const FIELD: &'static str = "cuts";
 
     ghost LOW = { 0 };
 

@@ -24,6 +24,7 @@ pub struct Fields<'a> {
 // The clauses name the next field by `slice_index_or (ahead self.old) 0 []` each: a word of our own for it would only have to be looked up.
 impl<'a> Fields<'a> {
     /// The next field; past the last, an empty one.
+    #[inline(always)]
     pub fn take(&mut self) -> &'a [u8]
         ensures field { result.now ≡ slice_index_or (ahead self.old) 0 [] }
         ensures after { Took self.old self.new }
@@ -37,6 +38,7 @@ impl<'a> Fields<'a> {
     }
 
     /// The next field, which has this number, as a number of a range.
+    #[inline(always)]
     pub fn number<R: Range>(&mut self, field: u8) -> Result<Ranged<R>, Fault>
         ensures read { Gives (λ x. x.number) result (number_at R.Range.LOW R.Range.HIGH self.old.line field (slice_index_or (ahead self.old) 0 [])) }
         ensures after { Took self.old self.new }
@@ -46,6 +48,7 @@ impl<'a> Fields<'a> {
     }
 
     /// The next field, which has this number, as a list of places.
+    #[inline(always)]
     pub fn places(&mut self, field: u8) -> Result<PlaceList, Fault>
         ensures read { Gives listed result (list_at self.old.line field (slice_index_or (ahead self.old) 0 [])) }
         ensures after { Took self.old self.new }
@@ -55,6 +58,7 @@ impl<'a> Fields<'a> {
     }
 
     /// The next field, which has this number, of an operand that the word does not take.
+    #[inline(always)]
     pub fn unused(&mut self, field: u8) -> Result<(), Fault>
         ensures read { result ≡ dash_at self.old.line field (slice_index_or (ahead self.old) 0 []) }
         ensures after { Took self.old self.new }

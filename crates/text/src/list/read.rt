@@ -8,7 +8,7 @@ ghost use Rattle.text.specs.Parts.{parts_of};
 
 use super::super::numbers::parse_ranged;
 use super::PlaceList;
-use bales::Places;
+use bales::Place;
 use fault::{Fault, Refusal, Spot};
 
 fn empty_list() -> PlaceList
@@ -24,7 +24,7 @@ fn parse_places(text: &[u8]) -> Option<PlaceList>
     let mut bits: u128 = 0;
     let mut last: u8 = 0;
     for part in text.split(|byte| *byte == b'+') {
-        let place = parse_ranged::<Places>(part)?.number();
+        let place = parse_ranged::<Place>(part)?.number();
         if place <= last {
             return None;
         }
