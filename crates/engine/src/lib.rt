@@ -11,4 +11,4 @@ pub use contradiction::Contradiction;
 pub use field::{Field, Misfit, Reason};
 pub use misfit::first_misfit;
 pub use propagator::Propagator;
-pub use telling::{cell_at, tell_all, told_together};
+pub use telling::{cell_at, tell_all, tell_one, tell_three, tell_two, told_together};

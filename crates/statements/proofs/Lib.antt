@@ -1,1 +1,2 @@
 -- What statements show follows from what words show.
+mod Misfits

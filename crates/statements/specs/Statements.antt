@@ -4,13 +4,14 @@ use Rattle.bales.specs.Lists.{closed_weights}
 use Rattle.bales.specs.declared.list.ClosedList.{ClosedList}
 use Rattle.domain.specs.declared.mixed.Either.TheVariants.{Right}
 use Rattle.engine.specs.declared.field.Field.{Field}
+use Rattle.engine.specs.Fits.{cell_fields}
 use Rattle.engine.specs.Parts.{first_of, second_of, right_of}
 use Rattle.engine.specs.Arity.{two_narrowed, TwoHold, three_narrowed, ThreeHold}
-use Rattle.engine.specs.Fits.{cell_fields}
 use Rattle.statements.specs.declared.statement.Statement.{Statement}
 use Rattle.statements.specs.declared.statement.Statement.TheVariants.{Sub, Same, Apart, Union, Both, Less, Has, Lacks, Count, Weigh, Sum, Most}
 use Rattle.words.specs.Cells.{Cell, Value, cell_meet}
 use Rattle.words.specs.Fields.{field_at, two_fields, three_fields, place_field}
+use Rattle.words.specs.GroupFields.{group_field, group_fields, scale_fields}
 use Rattle.words.specs.Rows.{narrowed_one, HoldsOne, narrowed_two, HoldsTwo, narrowed_three, HoldsThree}
 use Rattle.words.specs.Pairs.{sub_tells, SubHolds, same_tells, SameHolds, apart_tells, ApartHolds}
 use Rattle.words.specs.Triples.{union_tells, UnionHolds, both_tells, BothHold, less_tells, LessHolds}
@@ -65,15 +66,30 @@ narrowing_of b (Most w) = two_narrowed cell_meet second_of second_of Right Right
 
 -- its fields as they stand to a row
 abbrev pub fields_of : ClosedList → Statement → List Cell → List Field
-fields_of b (Sub w) = two_fields first_of first_of w.first w.second
-fields_of b (Same w) = two_fields first_of first_of w.first w.second
-fields_of b (Apart w) = two_fields first_of first_of w.first w.second
-fields_of b (Union w) = three_fields first_of w.first w.second w.third
-fields_of b (Both w) = three_fields first_of w.first w.second w.third
-fields_of b (Less w) = three_fields first_of w.first w.second w.third
-fields_of b (Has w) = cell_fields (field_at first_of 3 w.cell ∷ []) (place_field 4 w.place b ∷ [])
-fields_of b (Lacks w) = cell_fields (field_at first_of 3 w.cell ∷ []) (place_field 4 w.place b ∷ [])
-fields_of b (Count w) = two_fields first_of second_of w.first w.second
-fields_of b (Weigh w) = two_fields first_of second_of w.first w.second
+fields_of b (Sub w) = group_fields 3 (w.first ∷ (w.second ∷ []))
+fields_of b (Same w) = group_fields 3 (w.first ∷ (w.second ∷ []))
+fields_of b (Apart w) = group_fields 3 (w.first ∷ (w.second ∷ []))
+fields_of b (Union w) = group_fields 3 (w.first ∷ (w.second ∷ (w.third ∷ [])))
+fields_of b (Both w) = group_fields 3 (w.first ∷ (w.second ∷ (w.third ∷ [])))
+fields_of b (Less w) = group_fields 3 (w.first ∷ (w.second ∷ (w.third ∷ [])))
+fields_of b (Has w) = λ P. group_field 3 w.cell P ∷ (place_field 4 w.place b ∷ [])
+fields_of b (Lacks w) = λ P. group_field 3 w.cell P ∷ (place_field 4 w.place b ∷ [])
+fields_of b (Count w) = scale_fields w.first w.second
+fields_of b (Weigh w) = scale_fields w.first w.second
 fields_of b (Sum w) = three_fields second_of w.first w.second w.third
 fields_of b (Most w) = two_fields second_of second_of w.first w.second
+
+-- the fields as its word has them: of what kind a cell past the end of the row is they leave open
+abbrev pub word_fields : ClosedList → Statement → List Cell → List Field
+word_fields b (Sub w) = two_fields first_of first_of w.first w.second
+word_fields b (Same w) = two_fields first_of first_of w.first w.second
+word_fields b (Apart w) = two_fields first_of first_of w.first w.second
+word_fields b (Union w) = three_fields first_of w.first w.second w.third
+word_fields b (Both w) = three_fields first_of w.first w.second w.third
+word_fields b (Less w) = three_fields first_of w.first w.second w.third
+word_fields b (Has w) = cell_fields (field_at first_of 3 w.cell ∷ []) (place_field 4 w.place b ∷ [])
+word_fields b (Lacks w) = cell_fields (field_at first_of 3 w.cell ∷ []) (place_field 4 w.place b ∷ [])
+word_fields b (Count w) = two_fields first_of second_of w.first w.second
+word_fields b (Weigh w) = two_fields first_of second_of w.first w.second
+word_fields b (Sum w) = three_fields second_of w.first w.second w.third
+word_fields b (Most w) = two_fields second_of second_of w.first w.second

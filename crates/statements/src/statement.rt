@@ -1,17 +1,19 @@
 //! The statements of the match sheet: each is one of the words with its operands, and does what the word does.
-ghost use Rattle.std.specs.Prelude.{[], ◌∷◌};
+ghost use Rattle.std.specs.Prelude.{◌≡◌, [], ◌∷◌};
 ghost use Rattle.bales.specs.Lists.{closed_weights};
+ghost use Rattle.engine.specs.Fits.{first_misfit};
 ghost use Rattle.engine.specs.Telling.{named};
 ghost use Rattle.engine.proofs.Lifted.{one-narrowing, one-relation, two-narrowing, two-relation, three-narrowing, three-relation};
 ghost use Rattle.words.specs.CellsLemmas.{cell-bounds, cell-heights, cell-tells, groups, numbers};
 ghost use Rattle.words.specs.Fields.{place_field};
-ghost use Rattle.words.specs.Fitting.{one-fits, two-fit, three-fit};
+ghost use Rattle.words.specs.Fitting.{two-fit, three-fit};
+ghost use Rattle.words.specs.GroupFields.{fit-laws, group-and-number-fit};
 ghost use Rattle.words.specs.MemberLaws.{has-laws, lacks-laws};
 ghost use Rattle.words.specs.PairLaws.{sub-laws, same-laws, apart-laws};
 ghost use Rattle.words.specs.TripleLaws.{union-laws, both-laws, less-laws};
 ghost use Rattle.amounts.specs.NumberLaws.{sum-laws, most-laws};
 ghost use Rattle.amounts.specs.ScaleLaws.{count-laws, weigh-laws};
-ghost use Rattle.statements.specs.Statements.{cells_of, RelationOf, narrowing_of, fields_of};
+ghost use Rattle.statements.specs.Statements.{cells_of, RelationOf, narrowing_of, fields_of, word_fields};
 ghost use Rattle.statements.specs.declared.statement.Statement.TheVariants.{Sub, Same, Apart, Union, Both, Less, Has, Lacks, Count, Weigh, Sum, Most};
 
 use amounts::{numbers, scales};
@@ -54,6 +56,15 @@ macro_rules! each_word {
             Statement::Most($word) => $answer,
         }
     };
+}
+
+impl Statement {
+    // What is first at fault in the fields as the word has them.
+    fn find_fault(&self, book: &ClosedList, row: &[Cell]) -> Option<Misfit>
+        ensures { result ≡ first_misfit (word_fields book.now self.now row.now) }
+    {
+        each_word!(*self, word => word.find_misfit(book, row))
+    }
 }
 
 impl Propagator<Cell, ClosedList> for Statement {
@@ -99,16 +110,16 @@ impl Propagator<Cell, ClosedList> for Statement {
 
     ghost fitting = { λ b.
         elim [
-          | Sub w ↦ two-fit cell-bounds groups groups w.first w.second
-          | Same w ↦ two-fit cell-bounds groups groups w.first w.second
-          | Apart w ↦ two-fit cell-bounds groups groups w.first w.second
-          | Union w ↦ three-fit cell-bounds groups w.first w.second w.third
-          | Both w ↦ three-fit cell-bounds groups w.first w.second w.third
-          | Less w ↦ three-fit cell-bounds groups w.first w.second w.third
-          | Has w ↦ one-fits cell-bounds groups w.cell (place_field 4 w.place b ∷ [])
-          | Lacks w ↦ one-fits cell-bounds groups w.cell (place_field 4 w.place b ∷ [])
-          | Count w ↦ two-fit cell-bounds groups numbers w.first w.second
-          | Weigh w ↦ two-fit cell-bounds groups numbers w.first w.second
+          | Sub w ↦ fit-laws [] 3 (w.first ∷ (w.second ∷ []))
+          | Same w ↦ fit-laws [] 3 (w.first ∷ (w.second ∷ []))
+          | Apart w ↦ fit-laws [] 3 (w.first ∷ (w.second ∷ []))
+          | Union w ↦ fit-laws [] 3 (w.first ∷ (w.second ∷ (w.third ∷ [])))
+          | Both w ↦ fit-laws [] 3 (w.first ∷ (w.second ∷ (w.third ∷ [])))
+          | Less w ↦ fit-laws [] 3 (w.first ∷ (w.second ∷ (w.third ∷ [])))
+          | Has w ↦ fit-laws (place_field 4 w.place b ∷ []) 3 (w.cell ∷ [])
+          | Lacks w ↦ fit-laws (place_field 4 w.place b ∷ []) 3 (w.cell ∷ [])
+          | Count w ↦ group-and-number-fit w.first w.second
+          | Weigh w ↦ group-and-number-fit w.first w.second
           | Sum w ↦ three-fit cell-bounds numbers w.first w.second w.third
           | Most w ↦ two-fit cell-bounds numbers numbers w.first w.second
         ] };
@@ -122,6 +133,6 @@ impl Propagator<Cell, ClosedList> for Statement {
     }
 
     fn find_misfit(&self, book: &ClosedList, row: &[Cell]) -> Option<Misfit> {
-        each_word!(*self, word => word.find_misfit(book, row))
+        self.find_fault(book, row)
     }
 }

@@ -1,6 +1,6 @@
 -- Fields of groups, as the match sheet has them: a cell past the end of a row is no group either. What is first at fault in them is the same as
 -- in fields that leave open of what kind such a cell is, and so a fit of them lasts.
-use Rattle.std.specs.Prelude.{◌≡◌, ℕ, zero, suc, ◌+◌, Bool, true, false, List, [], ◌∷◌, ◌++◌, length, Some, None, Option, nat_lt, refl}
+use Rattle.std.specs.Prelude.{◌≡◌, ℕ, zero, suc, ◌+◌, ◌<◌, Bool, true, false, ◌||◌, List, [], ◌∷◌, ◌++◌, length, Some, None, Option, ◌==◌, nat_lt, refl}
 use Rattle.std.specs.Option.{is_some}
 use Rattle.std.proofs.Common.{sym, ap, ◌∙◌, subst, arith, ltb-true, ltb-false, lt-ltb, le-ltb}
 use Rattle.std.proofs.lemmas.Option.{none-some}
@@ -13,12 +13,11 @@ use Rattle.engine.specs.Rows.{item}
 use Rattle.engine.specs.Telling.{named, onward}
 use Rattle.engine.specs.Parts.{operand, of_kind, first_of, second_of}
 use Rattle.engine.specs.Fits.{unless, first_at_fault, first_misfit, FitLaws, cell_field_of, cell_fields, cells_named}
-use Rattle.engine.proofs.Fitting.{AllLasting, cells-fit}
+use Rattle.engine.proofs.Fitting.{AllLasting, cells-fit, fit-stands, stands-fit}
 use Rattle.engine.proofs.Sorts.{kind-lasts}
 use Rattle.words.specs.Cells.{Cell, CellAllows}
 use Rattle.words.specs.CellsLemmas.{cell-bounds, groups, numbers}
-use Rattle.words.specs.Fields.{field_at, two_fields}
-use Rattle.words.specs.Fitting.{two-fit}
+use Rattle.words.specs.Fields.{field_at, two_fields, three_fields}
 
 abbrev pub there : {X : Type 0} → Option X → Bool
 there None = false
@@ -156,10 +155,59 @@ fit-laws more n is =
 abbrev pub scale_fields : ℕ → ℕ → List Cell → List Field
 scale_fields i j P = group_field 3 i P ∷ cell_fields (field_at second_of 4 j ∷ []) [] P
 
+scales-alike : (i j : ℕ) (P : List Cell) → first_misfit (scale_fields i j P) ≡ first_misfit (two_fields first_of second_of i j P)
+scales-alike i j P =
+    let number = cell_fields (field_at second_of 4 j ∷ []) [] P in
+    same-misfit (scale_fields i j P) (two_fields first_of second_of i j P) (one-alike 3 i P number number (itself number) (item P i) refl)
+
+module _ (f : Field) (fs : List Field) where
+  fit-front : first_misfit (f ∷ fs) ≡ None → first_misfit (f ∷ []) ≡ None
+  fit-front e = stands-fit (f ∷ []) (λ r. ((fit-stands (f ∷ fs) e r).0, tt))
+
+  fit-rest : first_misfit (f ∷ fs) ≡ None → first_misfit fs ≡ None
+  fit-rest e = stands-fit fs (λ r. (fit-stands (f ∷ fs) e r).1)
+
+  fit-both : first_misfit (f ∷ []) ≡ None → first_misfit fs ≡ None → first_misfit (f ∷ fs) ≡ None
+  fit-both a b = stands-fit (f ∷ fs) (λ r. ((fit-stands (f ∷ []) a r).0, fit-stands fs b r))
+
+-- where a field's fit lasts, and that of others, it lasts for all of them
+fits-joined : {C V : Type 0} (allows : C → V → Type 0) (i : ℕ) (js : List ℕ) (f : List C → Field) (fs : List C → List Field) →
+    FitLaws allows (named (i ∷ [])) (λ P. f P ∷ []) → FitLaws allows (named js) fs → FitLaws allows (named (i ∷ js)) (λ P. f P ∷ fs P)
+fits-joined allows i js f fs one more = record {
+  added = λ P p e. fit-both (f (P ++ (p ∷ []))) (fs (P ++ (p ∷ []))) (one.added P p (fit-front (f P) (fs P) e)) (more.added P p (fit-rest (f P) (fs P) e));
+  narrowed = λ P Q a e. fit-both (f Q) (fs Q) (one.narrowed P Q a (fit-front (f P) (fs P) e)) (more.narrowed P Q a (fit-rest (f P) (fs P) e));
+  within = λ P e k h.
+      elim (i == k) as (λ b. (i == k) ≡ b → (b || named js k) ≡ true → k < length P) [
+        | true ↦ λ here g. one.within P (fit-front (f P) (fs P) e) k (rw here refl)
+        | false ↦ λ here g. more.within P (fit-rest (f P) (fs P) e) k g
+      ] refl h;
+}
+
 pub group-and-number-fit : (i j : ℕ) → FitLaws CellAllows (named (i ∷ (j ∷ []))) (scale_fields i j)
-group-and-number-fit i j = fit-as (scale_fields i j) (two_fields first_of second_of i j) same (two-fit cell-bounds groups numbers i j)
-  where
-    same : (P : List Cell) → first_misfit (scale_fields i j P) ≡ first_misfit (two_fields first_of second_of i j P)
-    same P =
-        let number = cell_fields (field_at second_of 4 j ∷ []) [] P in
-        same-misfit (scale_fields i j P) (two_fields first_of second_of i j P) (one-alike 3 i P number number (itself number) (item P i) refl)
+group-and-number-fit i j =
+    fits-joined CellAllows i (j ∷ []) (group_field 3 i) (cell_fields (field_at second_of 4 j ∷ []) []) (fit-laws [] 3 (i ∷ [])) (cells-fit CellAllows (field_at second_of 4 j ∷ []) [] (kind-lasts cell-bounds numbers, tt))
+
+-- ---- what the words promise
+
+-- The fields of words over one group and a place, over two and three groups, and over a group and a number: what is first at fault in them is what
+-- is first at fault where a cell that is not declared is no group, and a fit of these lasts.
+pub record GroupMisfits : Type 0 where
+  pub one : (i : ℕ) (more : List Field) (P : List Cell) → first_misfit (cell_fields (field_at first_of 3 i ∷ []) more P) ≡ first_misfit (group_field 3 i P ∷ more)
+  pub two : (i j : ℕ) (P : List Cell) → first_misfit (two_fields first_of first_of i j P) ≡ first_misfit (group_fields 3 (i ∷ (j ∷ [])) P)
+  pub three : (i j k : ℕ) (P : List Cell) → first_misfit (three_fields first_of i j k P) ≡ first_misfit (group_fields 3 (i ∷ (j ∷ (k ∷ []))) P)
+  pub scales : (i j : ℕ) (P : List Cell) → first_misfit (two_fields first_of second_of i j P) ≡ first_misfit (scale_fields i j P)
+  pub groups_last : (more : List Field) (n : ℕ) (is : List ℕ) → FitLaws CellAllows (named is) (λ P. group_fields n is P ++ more)
+  pub scales_last : (i j : ℕ) → FitLaws CellAllows (named (i ∷ (j ∷ []))) (scale_fields i j)
+
+same-groups : (more : List Field) (is : List ℕ) (P : List Cell) → first_misfit (cell_fields (groups_at 3 is) more P) ≡ first_misfit (group_fields 3 is P ++ more)
+same-groups more is P = sym (same-misfit (group_fields 3 is P ++ more) (cell_fields (groups_at 3 is) more P) (alike more 3 is P))
+
+pub group-misfits : GroupMisfits
+group-misfits = record {
+  one = λ i more P. same-groups more (i ∷ []) P;
+  two = λ i j P. same-groups [] (i ∷ (j ∷ [])) P;
+  three = λ i j k P. same-groups [] (i ∷ (j ∷ (k ∷ []))) P;
+  scales = λ i j P. sym (scales-alike i j P);
+  groups_last = fit-laws;
+  scales_last = group-and-number-fit;
+}

@@ -15,7 +15,7 @@ ghost use Rattle.words.specs.Fitting.{one-fits};
 use super::part::{Holds, field_of, part_at};
 use bales::ClosedList;
 use domain::{Group, GroupTell};
-use engine::{Contradiction, Field, Misfit, Propagator, first_misfit, tell_all};
+use engine::{Contradiction, Field, Misfit, Propagator, first_misfit, tell_one};
 
 /// A word over a group and a place: its relation, and what it tells the group.
 pub trait Membership: Copy {
@@ -82,7 +82,7 @@ impl<W: Membership, C: Holds<Group>> Propagator<C, ClosedList> for Member<W> {
             return Ok(false);
         };
         let tell = W::tells(self.place, group);
-        tell_all(row, &[(self.cell, &C::tell(tell))])
+        tell_one(row, self.cell, C::tell(tell))
     }
 
     fn find_misfit(&self, book: &ClosedList, row: &[C]) -> Option<Misfit> {

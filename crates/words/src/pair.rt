@@ -6,9 +6,9 @@ ghost use Rattle.engine.proofs.Lifted.{two-narrowing, two-relation};
 ghost use Rattle.words.specs.Fields.{two_fields};
 ghost use Rattle.words.specs.Fitting.{two-fit};
 
-use super::part::{Holds, field_of, part_at};
+use super::part::{Holds, field_of, two_at};
 use domain::Domain;
-use engine::{Contradiction, Misfit, Propagator, first_misfit, tell_all};
+use engine::{Contradiction, Misfit, Propagator, first_misfit, tell_two};
 
 /// A word over two operands: its relation, and what it tells each operand from the bounds of both. It may read the book `B` besides.
 pub trait Binary<B>: Copy {
@@ -62,19 +62,17 @@ impl<B, W: Binary<B>, C: Holds<W::First> + Holds<W::Second>> Propagator<C, B> fo
     }
 
     fn narrow(&self, book: &B, row: &mut [C]) -> Result<bool, Contradiction> {
-        let (Some(first), Some(second)) = (
-            part_at::<W::First, C>(row, self.first),
-            part_at::<W::Second, C>(row, self.second),
-        ) else {
+        let Some((first, second)) = two_at::<W::First, W::Second, C>(row, self.first, self.second)
+        else {
             return Ok(false);
         };
         let (x, y) = W::tells(book, first, second);
-        tell_all(
+        tell_two(
             row,
-            &[
-                (self.first, &<C as Holds<W::First>>::tell(x)),
-                (self.second, &<C as Holds<W::Second>>::tell(y)),
-            ],
+            self.first,
+            <C as Holds<W::First>>::tell(x),
+            self.second,
+            <C as Holds<W::Second>>::tell(y),
         )
     }
 

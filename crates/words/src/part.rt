@@ -4,6 +4,7 @@ ghost use Rattle.domain.specs.declared.mixed.Either.TheVariants.{Left, Right};
 ghost use Rattle.domain.specs.Groups.{GroupAllows, group_height, GroupPasses};
 ghost use Rattle.domain.specs.Numbers.{NumberAllows, number_height, NumberPasses};
 ghost use Rattle.engine.specs.Fits.{cell_field};
+ghost use Rattle.engine.specs.Arity.{all_two, all_three};
 ghost use Rattle.engine.specs.Parts.{PartLaws, operand, of_kind, first_of, second_of, left_of, right_of};
 ghost use Rattle.engine.proofs.Sorts.{whole-part};
 ghost use Rattle.words.specs.CellsLemmas.{groups, numbers};
@@ -103,10 +104,41 @@ impl Holds<Number> for Number {
 }
 
 /// The bounds in a cell of the row, or nothing where the row ends before it or it is of another kind.
+#[inline]
 pub fn part_at<P: Domain, C: Holds<P>>(row: &[C], cell: usize) -> Option<P>
     ensures { result ≡ operand C.Holds.part row.now cell }
 {
     cell_at(row, cell)?.part()
+}
+
+/// The bounds in two cells of the row, each of its kind, if there are both.
+#[inline]
+pub fn two_at<P: Domain, Q: Domain, C: Holds<P> + Holds<Q>>(
+    row: &[C],
+    first: usize,
+    second: usize,
+) -> Option<(P, Q)>
+    ensures { result ≡ all_two (operand C.Holds-1.part row.now first) (operand C.Holds-2.part row.now second) }
+{
+    let one = part_at::<P, C>(row, first)?;
+    let other = part_at::<Q, C>(row, second)?;
+    Some((one, other))
+}
+
+/// The bounds in three cells of the row, all of one kind, if there are all.
+#[inline]
+pub fn three_at<P: Domain, C: Holds<P>>(
+    row: &[C],
+    first: usize,
+    second: usize,
+    third: usize,
+) -> Option<(P, P, P)>
+    ensures { result ≡ all_three (operand C.Holds.part row.now first) (operand C.Holds.part row.now second) (operand C.Holds.part row.now third) }
+{
+    let first = part_at(row, first)?;
+    let second = part_at(row, second)?;
+    let third = part_at(row, third)?;
+    Some((first, second, third))
 }
 
 /// A field that names a cell of the row, counted from 0, which must be of the kind `P`.

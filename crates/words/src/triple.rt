@@ -6,9 +6,9 @@ ghost use Rattle.engine.proofs.Lifted.{three-narrowing, three-relation};
 ghost use Rattle.words.specs.Fields.{three_fields};
 ghost use Rattle.words.specs.Fitting.{three-fit};
 
-use super::part::{Holds, field_of, part_at};
+use super::part::{Holds, field_of, three_at};
 use domain::Domain;
-use engine::{Contradiction, Misfit, Propagator, first_misfit, tell_all};
+use engine::{Contradiction, Misfit, Propagator, first_misfit, tell_three};
 
 /// A word over three operands: its relation, and what it tells each operand from the bounds of all. It may read the book `B` besides.
 pub trait Ternary<B>: Copy {
@@ -63,21 +63,18 @@ impl<B, W: Ternary<B>, C: Holds<W::Kind>> Propagator<C, B> for Triple<W> {
     }
 
     fn narrow(&self, book: &B, row: &mut [C]) -> Result<bool, Contradiction> {
-        let (Some(first), Some(second), Some(third)) = (
-            part_at(row, self.first),
-            part_at(row, self.second),
-            part_at(row, self.third),
-        ) else {
+        let Some((first, second, third)) = three_at(row, self.first, self.second, self.third) else {
             return Ok(false);
         };
         let (x, y, z) = W::tells(book, first, second, third);
-        tell_all(
+        tell_three(
             row,
-            &[
-                (self.first, &C::tell(x)),
-                (self.second, &C::tell(y)),
-                (self.third, &C::tell(z)),
-            ],
+            self.first,
+            C::tell(x),
+            self.second,
+            C::tell(y),
+            self.third,
+            C::tell(z),
         )
     }
 

@@ -1,16 +1,13 @@
 -- One cell is told, then the others.
-use Rattle.std.proofs.Common.{ap, ◌∙◌}
-use Rattle.engine.specs.Fires.{restored}
-use Rattle.engine.proofs.Firing.{both-fire, others-contradict}
+use Rattle.std.proofs.Common.{map}
+use Rattle.engine.proofs.Firing.{both-fire, begun}
 use Rattle.engine.proofs.telling.+tell_all.Goals as goal
 
-pub returns-in-Ok : goal.returns-in-Ok
-returns-in-Ok g n = λ c.
-    both-fire g.met.D.Domain.bounds g.met.D.Domain.tells c.in-Some.first.now c.in-Some.others.now c.args.tells.now c.args.row.now c.tell_one.new.row c.tell_all.new.row
-    c.in-Some.ensures.cases.0 c.in_ok-changed.changed c.in-Ok.more c.in_ok-changed.ensures c.in-Ok.ensures
-
-pub returns-in-Err : goal.returns-in-Err
-returns-in-Err g n = λ c.
-    others-contradict g.met.D.Domain.bounds g.met.D.Domain.tells c.in-Some.first.now c.in-Some.others.now c.args.tells.now c.args.row.now c.tell_one.new.row c.tell_all.new.row
-    c.in-Some.ensures.cases.0 c.in_ok-changed.changed c.in-Err.contradiction c.restore.new.row c.in_ok-changed.ensures c.in-Err.ensures
-    (c.restore.ensures ∙ ap (restored c.tell_all.new.row c.in-Some.first.now.0) c.cell_at-old.ensures)
+pub returns : goal.returns
+returns g n = λ c.
+    let t = c.in-Some.first.now in
+    let ts = c.in-Some.others.now in
+    begun g.D.Domain.meet t ts c.args.tells.now c.args.row.now c.joined.new.row c.joined.result c.in-Some.ensures.cases.0
+    (both-fire g.met.D.Domain.bounds g.met.D.Domain.tells t.0 t.1.now (map (λ u. u.0) ts) (map (λ u. u.1.now) ts)
+    c.args.row.now _ c.tell_all-more.new.row c.in_ok-changed.changed c.tell_all-more.result c.joined.result c.cell_at-old.result c.joined.new.row
+    c.cell_at-old.ensures c.in_ok-changed.ensures c.tell_all-more.ensures c.joined.ensures.row c.joined.ensures.answer)

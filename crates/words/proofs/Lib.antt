@@ -1,0 +1,1 @@
+-- Nothing but answers: what the words stand on is in specs/.
