@@ -32,7 +32,7 @@ abbrev pub answer_of : {C : Type 0} → Result (Reply C) Fault → Answer C
 answer_of (Err f) = denied f
 answer_of (Ok G.Taken) = taken
 answer_of (Ok (G.Shown p)) = shown p
-answer_of (Ok (G.Ended s row)) = ended (ending s.end (vec_items row)) s.cuts
+answer_of (Ok (G.Ended e cuts row)) = ended (ending e (vec_items row)) cuts
 
 -- the answer to a declare or a state
 abbrev pub taken_of : {C Y : Type 0} → Result Y Fault → Answer C

@@ -3,16 +3,16 @@ ghost use Rattle.std.specs.Prelude.{◌≡◌};
 ghost use Rattle.play.specs.declared.answer.Stopped.TheVariants.{NoMemory};
 
 use fault::Fault;
-use solver::Settled;
+use solver::End;
 use std::alloc::{AllocError, AllocFailed};
 
-/// What a call was answered that no check denies: that it was taken; the bounds of a cell; or how a settling ended, and the row that it found,
-/// if any.
+/// What a call was answered that no check denies: that it was taken; the bounds of a cell; or how a settling ended, the cuts that it made, and
+/// the row that it found, if any. Flat, so that a list of answers stays small: a `Settled` would be a quarter of each.
 #[derive(Drop)]
 pub enum Reply<C> {
     Taken,
     Shown(C),
-    Ended(Settled, Vec<C>),
+    Ended(End, usize, Vec<C>),
 }
 
 /// What a call was answered: a reply, or the fault by which it was denied.

@@ -62,7 +62,7 @@ fn settled<C: Halves, B: Drop, R: Propagator<C, B>>(
     match sheet.settle(line, limit, stack) {
         Ok(settled) => {
             let row = copied(heap, stack, sheet.count())?;
-            Ok(Ok(Reply::Ended(settled, row)))
+            Ok(Ok(Reply::Ended(settled.end, settled.cuts, row)))
         }
         Err(fault) => Ok(Err(fault)),
     }

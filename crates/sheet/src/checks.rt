@@ -43,8 +43,8 @@ fn nameable(field: usize) -> u8
     u8::try_from(field).unwrap_or(u8::MAX)
 }
 
-// Whether nothing is at fault in the fields of a statement.
-fn check_fits(line: u32, misfit: Option<Misfit>) -> Result<(), Fault>
+/// Whether nothing is at fault in the fields of a statement; refused by 4, 13, 14 or 11.
+pub fn check_fits(line: u32, misfit: Option<Misfit>) -> Result<(), Fault>
     ensures { Denies (misfit_fault line misfit) result }
 {
     // a match: no method turns what is found into an error

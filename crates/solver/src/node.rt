@@ -66,6 +66,17 @@ impl Budget {
         }
     }
 
+    /// One row deeper, with one cut more.
+    pub(super) fn cut(self) -> Budget
+        requires cuts { self.at.cuts < self.limits.cuts }
+        requires depth { self.at.depth < self.limits.rows }
+        ensures limits { result.limits ≡ self.limits }
+        ensures cuts { result.at.cuts ≡ self.at.cuts + 1 }
+        ensures depth { result.at.depth ≡ self.at.depth + 1 }
+    {
+        self.deeper(self.at.cuts + 1)
+    }
+
     // Is no cut left?
     fn is_spent(self) -> bool
         ensures { result ≡ (self.at.cuts == self.limits.cuts) }

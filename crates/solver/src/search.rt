@@ -30,12 +30,18 @@ pub struct Settled {
     pub cuts: usize,
 }
 
-// Both halves of a cell, the first before the second.
-fn halves<C: Halves>(cell: C) -> (C, C)
-    ensures first { result.0 ≡ C.Halves.first cell }
-    ensures second { result.1 ≡ C.Halves.second cell }
+// The half of a cell that is searched first.
+fn sooner<C: Halves>(cell: C) -> C
+    ensures { result ≡ C.Halves.first cell }
 {
-    (cell.first_half(), cell.second_half())
+    cell.first_half()
+}
+
+// The half that is searched where the first holds nothing, and made only then.
+fn later<C: Halves>(cell: C) -> C
+    ensures { result ≡ C.Halves.second cell }
+{
+    cell.second_half()
 }
 
 // Brings the next row to the first where it is what was found.
@@ -76,14 +82,14 @@ impl<C: Halves, B, R: Propagator<C, B>> Network<'_, C, B, R> {
             Err(end) => return Settled { end, cuts },
         };
         let woken = self.naming.namers(i);
-        let (first, second) = halves(stack[i]);
-        put_cell(stack, n, i, first);
-        let one = self.seek(woken, budget.deeper(cuts + 1), &mut stack[n..]);
+        let cell = stack[i];
+        put_cell(stack, n, i, sooner(cell));
+        let one = self.seek(woken, budget.cut(), &mut stack[n..]);
         if one.end != End::None {
             lift(stack, n, one.end);
             return one;
         }
-        put_cell(stack, n, i, second);
+        put_cell(stack, n, i, later(cell));
         let two = self.seek(woken, budget.deeper(one.cuts), &mut stack[n..]);
         lift(stack, n, two.end);
         two

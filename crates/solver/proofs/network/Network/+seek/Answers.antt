@@ -59,14 +59,14 @@ returns-then-ne g t c =
     let n-s : n ≤ length s = omega arith in
     let long : n ≤ length ys = above-long n s ys (omega arith) (omega arith) in
     let widest : OthersRest kind rule book rules c.args.waits.bits P → Widest kind rule book rules P Q = c.in-Ok.ensures in
-    let first = half-put halves.first n i c.rest_row.new.stack (take n (drop n s)) x c.halves-first.result.0 in-row c.index-stack-i.is c.halves-first.ensures.first c.put_cell.ensures.put in
-    let half-told = subst (λ l. Sought kind halves rule book rules l c.deeper.result.at c.namers-woken.result.bits (take n (take (length s - n) (drop n s))) (take n ys) c.seek-one.result) c.deeper.ensures.limits c.seek-one.ensures in
+    let first = half-put halves.first n i c.rest_row.new.stack (take n (drop n s)) x c.sooner.result in-row c.index-stack-i.is c.sooner.ensures c.put_cell.ensures.put in
+    let half-told = subst (λ l. Sought kind halves rule book rules l c.cut.result.at c.namers-woken.result.bits (take n (take (length s - n) (drop n s))) (take n ys) c.seek-one.result) c.cut.ensures.limits c.seek-one.ensures in
     record {
       few = half-told.few;
       ended = λ others.
           let waits = cut-waits kind rule book (g.met.R.Propagator.narrowing book) rules halves.first Q i c.namers-woken.result.bits c.namers-woken.ensures (widest others).rests in
           let one = of-half kind halves rule book rules limits.cuts limits.rows c.namers-woken.result.bits (at.cuts + 1) _ (at.depth + 1) _ _ (change halves.first Q i) _ _
-          c.deeper.ensures.cuts c.deeper.ensures.depth (above-first n s (omega arith) ∙ first) waits half-told.ended in
+          c.cut.ensures.cuts c.cut.ensures.depth (above-first n s (omega arith) ∙ first) waits half-told.ended in
           step-first kind halves rule book rules limits.cuts limits.rows at.cuts at.depth i _ P Q c.seek-one.result.end (take n ys) _ (widest others) o.0 o.1 o.2
           (differs_true the_type _ _ (sym c.if-ne.ensures)) one (λ e. c.lift.ensures.found e ∙ above-back n (length s - n) s ys n-s long);
       kept = λ others e. inr (subst (Widest kind rule book rules P) (sym (c.lift.ensures.other e ∙ front-stays n (length s - n) s ys n-s ∙ c.put_cell.ensures.kept)) (widest others));
@@ -109,11 +109,11 @@ returns g t c =
     let long₂ : n ≤ length zs = above-long n s₂ zs two₂ (omega arith) in
     let stays : take n (put_mid n (length s - n) s ys) ≡ Q = front-stays n (length s - n) s ys n-s ∙ c.put_cell.ensures.kept in
     let widest : OthersRest kind rule book rules c.args.waits.bits P → Widest kind rule book rules P Q = c.in-Ok.ensures in
-    let first = half-put halves.first n i c.rest_row.new.stack (take n (drop n s)) x c.halves-first.result.0 in-row c.index-stack-i.is c.halves-first.ensures.first c.put_cell.ensures.put in
-    let second = half-put halves.second n i c.rest_row.new.stack (take n (drop n s₂)) x c.halves-first.result.1 in-row c.index-stack-i.is c.halves-first.ensures.second
-    (c.put_cell-2.ensures.put ∙ ap (λ q. set q i c.halves-first.result.1) stays) in
-    let one-told = subst (λ l. Sought kind halves rule book rules l c.deeper.result.at c.namers-woken.result.bits (take n (take (length s - n) (drop n s))) (take n ys) c.seek-one.result) c.deeper.ensures.limits c.seek-one.ensures in
-    let two-told = subst (λ l. Sought kind halves rule book rules l c.deeper-2.result.at c.namers-woken.result.bits (take n (take (length s₂ - n) (drop n s₂))) (take n zs) c.seek-two.result) c.deeper-2.ensures.limits c.seek-two.ensures in
+    let first = half-put halves.first n i c.rest_row.new.stack (take n (drop n s)) x c.sooner.result in-row c.index-stack-i.is c.sooner.ensures c.put_cell.ensures.put in
+    let second = half-put halves.second n i c.rest_row.new.stack (take n (drop n s₂)) x c.later.result in-row c.index-stack-i.is c.later.ensures
+    (c.put_cell-2.ensures.put ∙ ap (λ q. set q i c.later.result) stays) in
+    let one-told = subst (λ l. Sought kind halves rule book rules l c.cut.result.at c.namers-woken.result.bits (take n (take (length s - n) (drop n s))) (take n ys) c.seek-one.result) c.cut.ensures.limits c.seek-one.ensures in
+    let two-told = subst (λ l. Sought kind halves rule book rules l c.deeper.result.at c.namers-woken.result.bits (take n (take (length s₂ - n) (drop n s₂))) (take n zs) c.seek-two.result) c.deeper.ensures.limits c.seek-two.ensures in
     record {
       few = two-told.few;
       ended = λ others.
@@ -121,10 +121,10 @@ returns g t c =
           let laws = g.met.R.Propagator.narrowing book in
           let set = c.namers-woken.result.bits in
           let one = of-half kind halves rule book rules limits.cuts limits.rows set (at.cuts + 1) _ (at.depth + 1) _ _ (change halves.first Q i) _ _
-          c.deeper.ensures.cuts c.deeper.ensures.depth (above-first n s (omega arith) ∙ first)
+          c.cut.ensures.cuts c.cut.ensures.depth (above-first n s (omega arith) ∙ first)
           (cut-waits kind rule book laws rules halves.first Q i set c.namers-woken.ensures rests) one-told.ended in
           let then = of-half kind halves rule book rules limits.cuts limits.rows set c.seek-one.result.cuts _ (at.depth + 1) _ _ (change halves.second Q i) _ _
-          c.deeper-2.ensures.cuts c.deeper-2.ensures.depth (above-first n s₂ two₂ ∙ second)
+          c.deeper.ensures.cuts c.deeper.ensures.depth (above-first n s₂ two₂ ∙ second)
           (cut-waits kind rule book laws rules halves.second Q i set c.namers-woken.ensures rests) two-told.ended in
           step-second kind halves rule book rules limits.cuts limits.rows at.cuts at.depth i _ _ P Q c.seek-one.result.end c.seek-two.result.end (take n ys) (take n zs) _
           (widest others) o.0 o.1 o.2 (differs_false the_type tt _ _ (sym c.if-ne.ensures)) one then (λ e. c.lift-2.ensures.found e ∙ above-back n (length s₂ - n) s₂ zs n-s₂ long₂);
