@@ -7,7 +7,7 @@ use solver::End;
 use std::alloc::{AllocError, AllocFailed};
 
 /// What a call was answered that no check denies: that it was taken; the bounds of a cell; or how a settling ended, the cuts that it made, and
-/// the row that it found, if any. Flat, so that a list of answers stays small: a `Settled` would be a quarter of each.
+/// the row that it found, if any. End and cuts stand apart, since a `Settled` would make each answer a sixth longer.
 #[derive(Drop)]
 pub enum Reply<C> {
     Taken,

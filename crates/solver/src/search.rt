@@ -31,14 +31,14 @@ pub struct Settled {
 }
 
 // The half of a cell that is searched first.
-fn sooner<C: Halves>(cell: C) -> C
+fn first_branch<C: Halves>(cell: C) -> C
     ensures { result ≡ C.Halves.first cell }
 {
     cell.first_half()
 }
 
 // The half that is searched where the first holds nothing, and made only then.
-fn later<C: Halves>(cell: C) -> C
+fn second_branch<C: Halves>(cell: C) -> C
     ensures { result ≡ C.Halves.second cell }
 {
     cell.second_half()
@@ -83,13 +83,13 @@ impl<C: Halves, B, R: Propagator<C, B>> Network<'_, C, B, R> {
         };
         let woken = self.naming.namers(i);
         let cell = stack[i];
-        put_cell(stack, n, i, sooner(cell));
+        put_cell(stack, n, i, first_branch(cell));
         let one = self.seek(woken, budget.cut(), &mut stack[n..]);
         if one.end != End::None {
             lift(stack, n, one.end);
             return one;
         }
-        put_cell(stack, n, i, later(cell));
+        put_cell(stack, n, i, second_branch(cell));
         let two = self.seek(woken, budget.deeper(one.cuts), &mut stack[n..]);
         lift(stack, n, two.end);
         two

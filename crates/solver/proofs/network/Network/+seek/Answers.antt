@@ -59,7 +59,7 @@ returns-then-ne g t c =
     let n-s : n ≤ length s = omega arith in
     let long : n ≤ length ys = above-long n s ys (omega arith) (omega arith) in
     let widest : OthersRest kind rule book rules c.args.waits.bits P → Widest kind rule book rules P Q = c.in-Ok.ensures in
-    let first = half-put halves.first n i c.rest_row.new.stack (take n (drop n s)) x c.sooner.result in-row c.index-stack-i.is c.sooner.ensures c.put_cell.ensures.put in
+    let first = half-put halves.first n i c.rest_row.new.stack (take n (drop n s)) x c.first_branch.result in-row c.index-stack-i.is c.first_branch.ensures c.put_cell.ensures.put in
     let half-told = subst (λ l. Sought kind halves rule book rules l c.cut.result.at c.namers-woken.result.bits (take n (take (length s - n) (drop n s))) (take n ys) c.seek-one.result) c.cut.ensures.limits c.seek-one.ensures in
     record {
       few = half-told.few;
@@ -109,9 +109,9 @@ returns g t c =
     let long₂ : n ≤ length zs = above-long n s₂ zs two₂ (omega arith) in
     let stays : take n (put_mid n (length s - n) s ys) ≡ Q = front-stays n (length s - n) s ys n-s ∙ c.put_cell.ensures.kept in
     let widest : OthersRest kind rule book rules c.args.waits.bits P → Widest kind rule book rules P Q = c.in-Ok.ensures in
-    let first = half-put halves.first n i c.rest_row.new.stack (take n (drop n s)) x c.sooner.result in-row c.index-stack-i.is c.sooner.ensures c.put_cell.ensures.put in
-    let second = half-put halves.second n i c.rest_row.new.stack (take n (drop n s₂)) x c.later.result in-row c.index-stack-i.is c.later.ensures
-    (c.put_cell-2.ensures.put ∙ ap (λ q. set q i c.later.result) stays) in
+    let first = half-put halves.first n i c.rest_row.new.stack (take n (drop n s)) x c.first_branch.result in-row c.index-stack-i.is c.first_branch.ensures c.put_cell.ensures.put in
+    let second = half-put halves.second n i c.rest_row.new.stack (take n (drop n s₂)) x c.second_branch.result in-row c.index-stack-i.is c.second_branch.ensures
+    (c.put_cell-2.ensures.put ∙ ap (λ q. set q i c.second_branch.result) stays) in
     let one-told = subst (λ l. Sought kind halves rule book rules l c.cut.result.at c.namers-woken.result.bits (take n (take (length s - n) (drop n s))) (take n ys) c.seek-one.result) c.cut.ensures.limits c.seek-one.ensures in
     let two-told = subst (λ l. Sought kind halves rule book rules l c.deeper.result.at c.namers-woken.result.bits (take n (take (length s₂ - n) (drop n s₂))) (take n zs) c.seek-two.result) c.deeper.ensures.limits c.seek-two.ensures in
     record {
