@@ -1,5 +1,6 @@
 //! Numbers whose range is part of their type.
 
+ghost use Rattle.std.proofs.Common.{lit≤};
 ghost use Rattle.std.specs.Prelude.{◌≡◌, ℕ, ◌≤◌, ⊤, Some, decimal};
 ghost use Rattle.bales.specs.Ranges.{InRange};
 
@@ -31,10 +32,10 @@ pub trait Range: Copy {
 
     const HIGH: u32;
 
-    /// How `{:?}` calls a number of the range, and what it counts.
-    const NAME: &'static str;
+    /// How `{:?}` calls a number of the range, and what it counts; a range need not say.
+    const NAME: &'static str = "Ranged";
 
-    const FIELD: &'static str;
+    const FIELD: &'static str = "number";
 
     ghost LOW: { ℕ };
 
@@ -119,7 +120,24 @@ impl<R: Range> fmt::Display for Ranged<R> {
 #[cfg(test)]
 mod tests {
     use super::super::bale::{Place, Weight};
+    use super::{Range, Ranged};
     use std::test::Fail;
+
+    /// A range that says only from where to where it goes.
+    #[derive(Clone, Copy)]
+    struct Digits;
+
+    impl Range for Digits {
+        const LOW: u32 = 1;
+
+        const HIGH: u32 = 9;
+
+        ghost LOW = { 1 };
+
+        ghost HIGH = { 9 };
+
+        ghost small = { lit≤ tt };
+    }
 
     #[test]
     fn is_shown_by_its_name(rt: HostRuntime) -> Result<(), Fail> {
@@ -131,6 +149,17 @@ mod tests {
             shown.as_str(),
             "Place { number: 7 } Weight { pounds: 480 }"
         );
+        Ok(())
+    }
+
+    #[test]
+    fn needs_no_name(rt: HostRuntime) -> Result<(), Fail> {
+        let Some(digit) = Ranged::<Digits>::from_number(7) else {
+            return Err(Fail::new("not in range"));
+        };
+        let shown = format!(in rt.alloc(); "{digit} {digit:?}")?;
+        assert_eq!(rt; shown.as_str(), "7 Ranged { number: 7 }");
+        assert!(rt; Ranged::<Digits>::from_number(10).is_none());
         Ok(())
     }
 }
